@@ -1,0 +1,3 @@
+-- The host's field list.
+pub mod Form
+pub mod Reading

@@ -1,0 +1,63 @@
+-- Numbers on the wire (RFC 7541, 5.1): "A prefix of all ones is followed by groups of seven bits, low group first, top bit set when
+-- another follows. The value is the prefix plus the groups." Stated over the prefix width k, any from 1 to 8.
+use Prim.Native.Nat.{ℕ, zero, suc, _+_, _-_, _*_, _/_, _%_, _^_}
+use mathlib.Core.List.{List, [], _∷_}
+use lib.ListN.{length, getD}
+use lib.Dec.{ltb, leb}
+use Rattle.memory.specs.Choice.{pick}
+use Rattle.integers.specs.Answers.{Answer, done, refusal, truncated, too-large}
+use Rattle.integers.specs.declared.integer.WireInt.{WireInt}
+use Rattle.integers.specs.declared.integer.IntRead.{IntRead}
+use Rattle.integers.specs.declared.integer.IntRead.the-variants.{Value, Refused}
+
+-- "values up to 134,217,727 (2^27 − 1)"
+abbrev pub largest : ℕ
+largest = 134217727
+
+-- what is answered: the value and the place after it are told
+abbrev pub intAnswer : IntRead → Answer
+intAnswer (Value n next) = done (n .value) next
+intAnswer (Refused number) = refusal number
+
+-- what follows a number and the place after it, or the refusal passed on at once
+abbrev pub onInt {ℓ} : {X : Type ℓ} → (ℕ → X) → IntRead → (ℕ → ℕ → X) → X
+onInt refused (Value n next) f = f (n .value) next
+onInt refused (Refused number) f = refused number
+
+-- a number that was read, with the place after it
+abbrev pub value : ℕ → ℕ → IntRead
+value v next = Value (record { value = v }) next
+
+-- "the finished value is too large": 3
+abbrev pub finished : ℕ → ℕ → IntRead
+finished v next = pick (leb v largest) (value v next) (Refused too-large)
+
+-- at most n groups from the place at, above the value v; the group there weighs w.
+-- "If the fourth group says another follows .. the answer is 3. If bytes run out earlier, it is 2."
+unfoldable pub groups : ℕ → List ℕ → ℕ → ℕ → ℕ → IntRead
+groups zero s at v w = Refused too-large
+groups (suc n) s at v w =
+    pick (ltb at (length s))
+    (pick (ltb (getD s at 0) 128)
+    (finished (v + getD s at 0 % 128 * w) (at + 1))
+    (groups n s (at + 1) (v + getD s at 0 % 128 * w) (w * 128)))
+    (Refused truncated)
+
+-- the integer at the place at whose prefix is the low k bits of the byte there
+unfoldable pub readInt : ℕ → List ℕ → ℕ → IntRead
+readInt k s at =
+    pick (ltb at (length s))
+    (pick (ltb (getD s at 0 % 2 ^ k) (2 ^ k - 1))
+    (value (getD s at 0 % 2 ^ k) (at + 1))
+    (groups 4 s (at + 1) (getD s at 0 % 2 ^ k) 1))
+    (Refused truncated)
+
+-- r in groups of seven bits, low group first, in at most n + 1 groups
+unfoldable pub groupWire : ℕ → ℕ → List ℕ
+groupWire zero r = r ∷ []
+groupWire (suc n) r = pick (ltb r 128) (r ∷ []) ((r % 128 + 128) ∷ groupWire n (r / 128))
+
+-- "The writer uses the fewest bytes": v with a prefix of k bits, below the bits top of the first byte
+unfoldable pub intWire : ℕ → ℕ → ℕ → List ℕ
+intWire k top v =
+    pick (ltb v (2 ^ k - 1)) ((top + v) ∷ []) ((top + (2 ^ k - 1)) ∷ groupWire 3 (v - (2 ^ k - 1)))

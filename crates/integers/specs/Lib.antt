@@ -1,0 +1,3 @@
+-- The numbered answers, and prefix integers.
+pub mod Answers
+pub mod Integer

@@ -1,0 +1,7 @@
+-- The laws of `memory`: plain values, for the functions' proofs and the crates above.
+pub mod Order
+pub mod Overlay
+pub mod Places
+pub mod Moving
+pub mod Numbers
+pub mod Sameness

@@ -1,0 +1,11 @@
+pub mod Strings
+pub mod TextWriting
+pub mod TextBounds
+pub mod TextBack
+pub mod TextKept
+pub mod ListLaws
+pub mod ListBounds
+pub mod ListWriting
+pub mod ListBack
+pub mod ListKept
+pub mod ListVectors

@@ -1,0 +1,67 @@
+-- Reading gives back the strings and names that were written, and a name's first byte keeps the bits above its prefix.
+-- By `int-back` at the length or the index, and the place of the bytes after it.
+use mathlib.Core.Path.{_≡_, refl, ap, _∙_}
+use Prim.Native.Nat.{ℕ, _+_, _*_, _^_, _≤_, _<_}
+use native.Mathlib.Omega.{arith}
+use mathlib.Core.List.{List}
+use lib.ListN.{length, getD}
+use Rattle.memory.specs.Bytes.{Has}
+use Rattle.memory.proofs.Places.{has-left, has-right, has-end, has-part}
+use Rattle.integers.specs.Integer.{intWire, largest}
+use Rattle.wire.specs.Text.{readString, stringWire, stringLength, stringBytes}
+use Rattle.wire.specs.Name.{Name, FineName, nameOf, readName, nameWire}
+use Rattle.wire.specs.declared.text.StringPlace.{StringPlace}
+use Rattle.wire.specs.declared.text.StringRead.the-variants.{Found}
+use Rattle.wire.specs.declared.name.NamePlace.{NamePlace}
+use Rattle.wire.specs.declared.name.NamePlace.the-variants.{Index, Text}
+use Rattle.wire.specs.declared.name.NameRead.the-variants.{Found as NameFound}
+use Rattle.integers.proofs.Back.{int-back}
+use Rattle.integers.proofs.Lengths.{first-byte}
+use Rattle.wire.proofs.Strings.{string-value, after-found, name-index, name-text}
+use Rattle.wire.proofs.TextWriting.{string-length-wire, literal-length-wire}
+
+-- where the bytes of a string stand, a place with that string is read
+pub string-back : (s : List ℕ) (at limit : ℕ) (xs : List ℕ) → length xs ≤ limit → length xs ≤ 2047 → Has s at (stringWire xs)
+    → (p : StringPlace) × (readString s at limit ≡ Found p (at + length (stringWire xs))) × (stringBytes s p ≡ xs) × (stringLength s p ≡ length xs)
+unfolding stringWire stringBytes stringLength
+string-back s at limit xs h k p =
+    let n = length xs in
+    let bytes = intWire 7 0 n in
+    let q : Has s at bytes = has-left s at bytes xs p in
+    let low = first-byte s 7 at 0 n q in
+    let start : ℕ = at + length bytes in
+    let rest : Has s start xs = has-right s at bytes xs p in
+    let first = has-end s at bytes (omega (arith, low .0)) q in
+    let fits : start + n ≤ length s = has-end s start xs (omega arith) rest in (
+      record { start = start; size = n },
+      string-value s at limit (low .0) (low .2) _ refl (record { value = n }) start (int-back s 7 at 0 n (omega arith) q)
+          ∙ after-found s limit n start h (omega arith)
+          ∙ ap (Found (record { start = start; size = n })) (omega (arith, string-length-wire xs)),
+      has-part s start xs rest,
+      refl,
+    )
+
+-- where the bytes of a name stand, a place with that name is read
+pub name-back : (s : List ℕ) (k at t : ℕ) (n : Name) → FineName n → Has s at (nameWire k (t * 2 ^ k) n)
+    → (p : NamePlace) × (readName k s at ≡ NameFound p (at + length (nameWire k (t * 2 ^ k) n))) × (nameOf s p ≡ n)
+unfolding nameWire
+name-back s k at t (Name.indexed i) h p = (
+  Index (record { value = i }),
+  name-index k s at _ refl (record { value = i }) _ (int-back s k at t i (h .1) p) (λ z. omega (arith, h .0)),
+  refl,
+)
+name-back s k at t (Name.literal xs) h p =
+    let head = intWire k (t * 2 ^ k) 0 in
+    let e = int-back s k at t 0 (omega arith) (has-left s at head (stringWire xs) p) in
+    let b = string-back s (at + length head) 255 xs h (omega arith) (has-right s at head (stringWire xs) p) in (
+      Text (b .0),
+      name-text k s at _ refl (record { value = 0 }) _ e refl _ refl (b .0) _ (b .1)
+          ∙ ap (NameFound (Text (b .0))) (omega (arith, literal-length-wire k (t * 2 ^ k) xs)),
+      ap Name.literal (b .2),
+    )
+
+pub name-first : (s : List ℕ) (k at top : ℕ) (n : Name) → Has s at (nameWire k top n)
+    → (at < length s) × (top ≤ getD s at 0) × (getD s at 0 < top + 2 ^ k)
+unfolding nameWire
+name-first s k at top (Name.indexed i) p = first-byte s k at top i p
+name-first s k at top (Name.literal xs) p = first-byte s k at top 0 (has-left s at (intWire k top 0) (stringWire xs) p)
