@@ -1,0 +1,48 @@
+-- `statics::table::static_name` meets its contract: the entry stands in the text at its place.
+use borrow.Author.Needs.{needs}
+use native.Mathlib.Omega.{arith}
+use Rattle.statics.specs.Table.{entryAt}
+use Rattle.statics.proofs.Entries.{Stands, name-slice}
+use Rattle.statics.proofs.Places.{place-stands}
+use Rattle.statics.proofs.table.static_name.Statement.{statement}
+use Rattle.statics.proofs.table.static_name.Tie as tie
+
+stood : (c : tie.After-static-place) → Stands (c .before .before .args .text .now) (c .static-place .result) (entryAt (c .before .before .args .i))
+stood c = place-stands _ (c .before .before .pre .0) (c .static-place .ensures) (c .before .before .pre .1)
+
+static-place-requires : tie.Need-static-place-requires
+static-place-requires c κs = search needs
+
+cast-a : tie.Need-cast-a
+cast-a c = search needs
+
+cast-e : tie.Need-cast-e
+cast-e c = search needs
+
+add-e : tie.Need-add-e
+add-e c = search needs
+
+sub-result : tie.Need-sub-result
+sub-result c = search needs
+
+part-result-start : tie.Need-part-result-start
+part-result-start c = search needs
+
+part-result-end : tie.Need-part-result-end
+part-result-end c = let s = stood (c .before .before) in omega (arith, s .end)
+
+returns : tie.Need-returns
+returns c = name-slice (stood (c .before .before .before))
+
+pub static-name-spec : {M : Type 1} → statement M
+static-name-spec =
+    tie.close
+    (tie.spec
+    static-place-requires
+    cast-a
+    cast-e
+    add-e
+    sub-result
+    part-result-start
+    part-result-end
+    returns)
