@@ -10,7 +10,7 @@ use lib.Seq.{length-take-le, take-append-le, drop-append-le}
 use Rattle.memory.proofs.Order.{split}
 use Rattle.integers.specs.Integer.{readInt, largest}
 use Rattle.wire.specs.Text.{InText, readString, stringAfter, stringLength, stringBytes}
-use Rattle.wire.specs.Name.{Name, nameOf, readName}
+use Rattle.wire.specs.Name.{GoodName, Name, nameOf, readName}
 use Rattle.integers.specs.declared.integer.WireInt.{WireInt}
 use Rattle.integers.specs.declared.integer.IntRead.{IntRead}
 use Rattle.integers.specs.declared.integer.IntRead.the-variants.{Value, Refused as IntRefused}
@@ -90,11 +90,6 @@ module _ (s : List ℕ) (p : StringPlace) where
 
   pub in-text-kept : (t : List ℕ) → InText s p → InText (s ++ t) p
   in-text-kept t h = omega (arith, length-append s t)
-
--- a name's place: an index that is not 0, or a string's place in the input
-abbrev pub GoodName : List ℕ → NamePlace → Type 0
-GoodName s (Index i) = (0 < i .value) × (i .value ≤ largest)
-GoodName s (Text p) = InText s p × (stringLength s p ≤ 255)
 
 abbrev pub GoodNameRead : List ℕ → ℕ → NameRead → Type 0
 GoodNameRead s at (NameFound p next) = (at < next) × (next ≤ length s) × GoodName s p

@@ -6,7 +6,7 @@ use lib.Dec.{eqb}
 use Rattle.memory.specs.Choice.{pick}
 use Rattle.integers.specs.Answers.{Answer, done, refusal}
 use Rattle.integers.specs.Integer.{largest, readInt, onInt, intWire}
-use Rattle.wire.specs.Text.{readString, onString, stringBytes, stringWire, nameLimit}
+use Rattle.wire.specs.Text.{InText, stringLength, stringBytes, readString, onString, stringWire, nameLimit}
 use Rattle.integers.specs.declared.number.TableIndex.{TableIndex}
 use Rattle.wire.specs.declared.text.StringPlace.{StringPlace}
 use Rattle.wire.specs.declared.name.NamePlace.{NamePlace}
@@ -28,6 +28,11 @@ FineName (literal xs) = length xs ≤ nameLimit
 abbrev pub nameOf : List ℕ → NamePlace → Name
 nameOf s (Index i) = indexed (i .value)
 nameOf s (Text p) = literal (stringBytes s p)
+
+-- the place lies in s: an index is not 0, a string is one of a name's
+abbrev pub GoodName : List ℕ → NamePlace → Type 0
+GoodName s (Index i) = (0 < i .value) × (i .value ≤ largest)
+GoodName s (Text p) = InText s p × (stringLength s p ≤ nameLimit)
 
 -- what is answered: the place after the name is told
 abbrev pub nameAnswer : NameRead → Answer
