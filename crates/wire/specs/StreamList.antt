@@ -1,5 +1,6 @@
 -- Stream lists: "A stream list is horizon, count, deltas, all with 8-bit prefixes. It names every stream below the horizon and each listed one.
 -- The first delta counts from the horizon, each other from the stream before it."
+use mathlib.Core.Path.{_≡_}
 use Prim.Native.Nat.{ℕ, zero, suc, _+_, _-_, _<_, _≤_}
 use mathlib.Core.Bool.{Bool, true, false}
 use mathlib.Core.List.{List, [], _∷_, _++_}
@@ -88,6 +89,14 @@ readList s at =
     need (leb count 16) (Refused bad-stream-list)
     (onDeltas Refused (readDeltas count s deltas horizon) (λ next.
     Found (record { horizon = horizon; count = count; deltas = deltas }) next)))))
+
+-- the place lies in s, and its deltas can be read there again
+pub record InList (s : List ℕ) (p : ListPlace) : Type 0 where
+  pub near : p .horizon ≤ 4096
+  pub few : p .count ≤ 16
+  pub end : ℕ
+  pub within : end ≤ length s
+  pub deltas : readDeltas (p .count) s (p .deltas) (p .horizon) ≡ End end
 
 -- streams that can be listed after last: strictly ascending, at most 4,095
 abbrev pub Fits : ℕ → List ℕ → Type 0

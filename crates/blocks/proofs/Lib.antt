@@ -1,0 +1,12 @@
+pub mod Equations
+pub mod Turns
+pub mod Writing
+pub mod Bounds
+pub mod Fuel
+pub mod Back
+pub mod Whole
+pub mod Refusals
+pub mod RepresentationKept
+pub mod MeaningLaws
+pub mod MeaningHeld
+pub mod Vectors

@@ -1,0 +1,3 @@
+-- Instructions of the management stream and acknowledgements.
+pub mod Instruction
+pub mod Reading
