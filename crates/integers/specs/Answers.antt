@@ -1,5 +1,9 @@
 -- The numbered table of document 01. Every answer enum has one definition, in the file of its reader, that gives its case as an `Answer`.
 use Prim.Native.Nat.{ℕ}
+use mathlib.Core.Bool.{Bool, true, false}
+use mathlib.Core.List.{List, [], _∷_}
+use lib.Dec.{T, eqb}
+use Rattle.memory.specs.Choice.{pick}
 
 -- an answer: its number, and the numbers told with it. "A told number not named here for the answer is 0."
 pub record Answer : Type 0 where
@@ -80,3 +84,12 @@ bad-field-list = 16
 -- memory forms no state
 abbrev pub no-state : ℕ
 no-state = 17
+
+-- is n among these numbers?
+abbrev pub among : List ℕ → ℕ → Bool
+among [] n = false
+among (m ∷ ms) n = pick (eqb n m) true (among ms n)
+
+-- what a reading refuses by: "the first of 2, 3, 4, 5, 13, 14 met"
+abbrev pub Refuses : ℕ → Type 0
+Refuses n = T (among (truncated ∷ too-large ∷ packed ∷ not-allowed ∷ too-long ∷ bad-stream-list ∷ []) n)

@@ -1,0 +1,48 @@
+-- An integer is refused by numbers of reading alone; so is what follows an integer, if its own refusals and its rest are.
+-- Along the definitions: a choice has what both of its ways have.
+use Prim.Native.Nat.{ℕ, zero, suc, _+_, _-_, _*_, _%_, _^_}
+use mathlib.Core.List.{List}
+use lib.ListN.{length, getD}
+use lib.Dec.{ltb, leb}
+use Rattle.memory.proofs.Order.{pick-both}
+use Rattle.integers.specs.Answers.{Refuses}
+use Rattle.integers.specs.Integer.{onInt, value, largest, finished, groups, readInt}
+use Rattle.integers.specs.declared.integer.IntRead.{IntRead}
+use Rattle.integers.specs.declared.integer.IntRead.the-variants.{Value, Refused}
+
+-- an answer that is as it should be: a record, so that antt finds the answer and the claim
+pub record Told {X : Type 0} (Fine : X → Type 0) (x : X) : Type 0 where
+  pub told : Fine x
+
+abbrev pub IntTold : IntRead → Type 0
+IntTold (Value n next) = Unit {0}
+IntTold (Refused m) = Refuses m
+
+finished-told : (v next : ℕ) → Told IntTold (finished v next)
+finished-told v next = pick-both (Told IntTold) (leb v largest) (value v next) (Refused 3) (λ e. record { told = tt }) (λ e. record { told = tt })
+
+groups-told : (n : ℕ) (s : List ℕ) (at v w : ℕ) → Told IntTold (groups n s at v w)
+unfolding groups
+groups-told zero s at v w = record { told = tt }
+groups-told (suc n) s at v w =
+    let b : ℕ = getD s at 0 in
+    let sum : ℕ = v + b % 128 * w in
+    pick-both (Told IntTold) (ltb at (length s)) _ (Refused 2)
+    (λ e. pick-both (Told IntTold) (ltb b 128) (finished sum (at + 1)) (groups n s (at + 1) sum (w * 128))
+    (λ d. finished-told sum (at + 1)) (λ d. groups-told n s (at + 1) sum (w * 128)))
+    (λ e. record { told = tt })
+
+pub int-told : (k : ℕ) (s : List ℕ) (at : ℕ) → Told IntTold (readInt k s at)
+unfolding readInt
+int-told k s at =
+    let first : ℕ = getD s at 0 % 2 ^ k in
+    pick-both (Told IntTold) (ltb at (length s)) _ (Refused 2)
+    (λ e. pick-both (Told IntTold) (ltb first (2 ^ k - 1)) (value first (at + 1)) (groups 4 s (at + 1) first 1)
+    (λ d. record { told = tt }) (λ d. groups-told 4 s (at + 1) first 1))
+    (λ e. record { told = tt })
+
+-- an integer, then what follows
+pub told-on-int : {X : Type 0} (Fine : X → Type 0) (refused : ℕ → X) → ((m : ℕ) → Refuses m → Fine (refused m))
+    → (r : IntRead) {f : ℕ → ℕ → X} → Told IntTold r → ((v next : ℕ) → Told Fine (f v next)) → Told Fine (onInt refused r f)
+told-on-int Fine refused h (Value n next) k g = g (n .value) next
+told-on-int Fine refused h (Refused m) k g = record { told = h m (k .told) }

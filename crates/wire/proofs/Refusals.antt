@@ -1,0 +1,117 @@
+-- Strings, names and stream lists are refused by numbers of reading alone; so is what follows one, if its own refusals and its rest are.
+-- Along the definitions, as for integers.
+use Prim.Native.Nat.{ℕ, zero, suc, _+_, _-_}
+use mathlib.Core.List.{List}
+use lib.ListN.{length, getD}
+use lib.Dec.{ltb, leb, eqb}
+use Rattle.memory.proofs.Order.{pick-both, need-both}
+use Rattle.integers.specs.Answers.{Refuses}
+use Rattle.integers.specs.Integer.{readInt}
+use Rattle.integers.proofs.Refusals.{Told, int-told, told-on-int}
+use Rattle.wire.specs.Text.{onString, readString, stringAfter}
+use Rattle.wire.specs.Name.{onName, readName}
+use Rattle.wire.specs.StreamList.{onDelta, onDeltas, onList, readDelta, readDeltas, readList}
+use Rattle.wire.specs.declared.text.StringPlace.{StringPlace}
+use Rattle.wire.specs.declared.text.StringRead.{StringRead}
+use Rattle.wire.specs.declared.text.StringRead.the-variants.{Found, Refused}
+use Rattle.wire.specs.declared.name.NamePlace.{NamePlace}
+use Rattle.wire.specs.declared.name.NameRead.{NameRead}
+use Rattle.wire.specs.declared.name.NameRead.the-variants.{Found as NameFound, Refused as NameRefused}
+use Rattle.wire.specs.declared.stream_list.ListPlace.{ListPlace}
+use Rattle.wire.specs.declared.stream_list.DeltaRead.{DeltaRead}
+use Rattle.wire.specs.declared.stream_list.DeltaRead.the-variants.{Stream, Refused as DeltaRefused}
+use Rattle.wire.specs.declared.stream_list.DeltasRead.{DeltasRead}
+use Rattle.wire.specs.declared.stream_list.DeltasRead.the-variants.{End, Refused as DeltasRefused}
+use Rattle.wire.specs.declared.stream_list.ListRead.{ListRead}
+use Rattle.wire.specs.declared.stream_list.ListRead.the-variants.{Found as ListFound, Refused as ListRefused}
+
+abbrev pub StringTold : StringRead → Type 0
+StringTold (Found p next) = Unit {0}
+StringTold (Refused m) = Refuses m
+
+abbrev pub NameTold : NameRead → Type 0
+NameTold (NameFound p next) = Unit {0}
+NameTold (NameRefused m) = Refuses m
+
+abbrev pub DeltaTold : DeltaRead → Type 0
+DeltaTold (Stream x next) = Unit {0}
+DeltaTold (DeltaRefused m) = Refuses m
+
+abbrev pub DeltasTold : DeltasRead → Type 0
+DeltasTold (End next) = Unit {0}
+DeltasTold (DeltasRefused m) = Refuses m
+
+abbrev pub ListTold : ListRead → Type 0
+ListTold (ListFound p next) = Unit {0}
+ListTold (ListRefused m) = Refuses m
+
+-- a reader's answer, then what follows
+module _ {X : Type 0} (Fine : X → Type 0) (refused : ℕ → X) (h : (m : ℕ) → Refuses m → Fine (refused m)) where
+  pub told-on-string : (r : StringRead) {f : StringPlace → ℕ → X} → Told StringTold r → ((p : StringPlace) (next : ℕ) → Told Fine (f p next))
+      → Told Fine (onString refused r f)
+  told-on-string (Found p next) k g = g p next
+  told-on-string (Refused m) k g = record { told = h m (k .told) }
+
+  pub told-on-name : (r : NameRead) {f : NamePlace → ℕ → X} → Told NameTold r → ((p : NamePlace) (next : ℕ) → Told Fine (f p next))
+      → Told Fine (onName refused r f)
+  told-on-name (NameFound p next) k g = g p next
+  told-on-name (NameRefused m) k g = record { told = h m (k .told) }
+
+  pub told-on-delta : (r : DeltaRead) {f : ℕ → ℕ → X} → Told DeltaTold r → ((x next : ℕ) → Told Fine (f x next))
+      → Told Fine (onDelta refused r f)
+  told-on-delta (Stream x next) k g = g (x .value) next
+  told-on-delta (DeltaRefused m) k g = record { told = h m (k .told) }
+
+  pub told-on-deltas : (r : DeltasRead) {f : ℕ → X} → Told DeltasTold r → ((next : ℕ) → Told Fine (f next)) → Told Fine (onDeltas refused r f)
+  told-on-deltas (End next) k g = g next
+  told-on-deltas (DeltasRefused m) k g = record { told = h m (k .told) }
+
+  pub told-on-list : (r : ListRead) {f : ListPlace → ℕ → X} → Told ListTold r → ((p : ListPlace) (next : ℕ) → Told Fine (f p next))
+      → Told Fine (onList refused r f)
+  told-on-list (ListFound p next) k g = g p next
+  told-on-list (ListRefused m) k g = record { told = h m (k .told) }
+
+module _ (s : List ℕ) (at : ℕ) where
+  after-told : (limit size start : ℕ) → Told StringTold (stringAfter s limit size start)
+  unfolding stringAfter
+  after-told limit size start =
+      need-both (Told StringTold) (leb size limit) (Refused 13) _ (λ e. record { told = tt })
+      (λ e. need-both (Told StringTold) (leb size (length s - start)) (Refused 2) _ (λ d. record { told = tt }) (λ d. record { told = tt }))
+
+  pub string-told : (limit : ℕ) → Told StringTold (readString s at limit)
+  unfolding readString
+  string-told limit =
+      need-both (Told StringTold) (ltb at (length s)) (Refused 2) _ (λ e. record { told = tt })
+      (λ e. need-both (Told StringTold) (ltb (getD s at 0) 128) (Refused 4) _ (λ d. record { told = tt })
+      (λ d. told-on-int StringTold Refused (λ m r. r) (readInt 7 s at) (int-told 7 s at) (after-told limit)))
+
+  pub delta-told : (last : ℕ) → Told DeltaTold (readDelta s at last)
+  unfolding readDelta
+  delta-told last =
+      told-on-int DeltaTold DeltaRefused (λ m r. r) (readInt 8 s at) (int-told 8 s at)
+      (λ delta next. need-both (Told DeltaTold) (ltb 0 delta) (DeltaRefused 14) _ (λ e. record { told = tt })
+      (λ e. need-both (Told DeltaTold) (leb (last + delta) 4095) (DeltaRefused 14) _ (λ d. record { told = tt }) (λ d. record { told = tt })))
+
+pub name-told : (k : ℕ) (s : List ℕ) (at : ℕ) → Told NameTold (readName k s at)
+unfolding readName
+name-told k s at =
+    told-on-int NameTold NameRefused (λ m r. r) (readInt k s at) (int-told k s at)
+    (λ index next. pick-both (Told NameTold) (eqb index 0) _ _
+    (λ e. told-on-string NameTold NameRefused (λ m r. r) (readString s next 255) (string-told s next 255) (λ p after. record { told = tt }))
+    (λ e. record { told = tt }))
+
+deltas-told : (n : ℕ) (s : List ℕ) (at last : ℕ) → Told DeltasTold (readDeltas n s at last)
+unfolding readDeltas
+deltas-told zero s at last = record { told = tt }
+deltas-told (suc n) s at last =
+    told-on-delta DeltasTold DeltasRefused (λ m r. r) (readDelta s at last) (delta-told s at last) (λ x next. deltas-told n s next x)
+
+pub list-told : (s : List ℕ) (at : ℕ) → Told ListTold (readList s at)
+unfolding readList
+list-told s at =
+    told-on-int ListTold ListRefused (λ m r. r) (readInt 8 s at) (int-told 8 s at)
+    (λ horizon after. need-both (Told ListTold) (leb horizon 4096) (ListRefused 14) _ (λ e. record { told = tt })
+    (λ e. told-on-int ListTold ListRefused (λ m r. r) (readInt 8 s after) (int-told 8 s after)
+    (λ count deltas. need-both (Told ListTold) (leb count 16) (ListRefused 14) _ (λ d. record { told = tt })
+    (λ d. told-on-deltas ListTold ListRefused (λ m r. r) (readDeltas count s deltas horizon) (deltas-told count s deltas horizon)
+    (λ next. record { told = tt })))))
