@@ -1,0 +1,176 @@
+// The answer to one vector.
+ghost use Prim.Native.Nat.{ℕ, _≤_};
+use crate::show::bytes;
+use crate::show::list;
+use crate::show::name;
+use crate::show::next;
+use crate::show::number;
+use crate::show::refusal;
+use crate::show::string;
+use crate::show::words;
+use blocks::read::RepresentationPlace;
+use blocks::read::RepresentationRead;
+use blocks::read::check_block;
+use blocks::read::read_representation;
+use fields::read::check_list;
+use instructions::read::InstructionPlace;
+use instructions::read::InstructionRead;
+use instructions::read::read_for_decoder;
+use instructions::read::read_for_encoder;
+use integers::integer::IntRead;
+use integers::integer::WireInt;
+use wire::stream_list::ListRead;
+use wire::stream_list::read_list;
+use wire::text::NAME_LIMIT;
+use wire::text::StringRead;
+use wire::text::VALUE_LIMIT;
+use wire::text::read_string;
+
+pub fn answer(kind: u8, width: u8, s: &[u8]) {
+    match kind {
+        b'i' => integer(width, s),
+        b'w' => written(width, s),
+        b'n' => string_read(s, NAME_LIMIT),
+        b'v' => string_read(s, VALUE_LIMIT),
+        b'l' => list_read(s),
+        b'd' => instruction_read(s, read_for_decoder(s)),
+        b'e' => instruction_read(s, read_for_encoder(s)),
+        b'b' => block(s),
+        b'f' => refusal(check_list(s)),
+        _ => words(b"?"),
+    }
+}
+
+// The width that a digit says, from 1 to 8; 8 for any other character.
+fn width_of(digit: u8) -> u32
+    ensures { λ r. ⌜ (1 ≤ r) × (r ≤ 8) ⌝ }
+{
+    match digit {
+        b'1' => 1,
+        b'5' => 5,
+        b'6' => 6,
+        b'7' => 7,
+        _ => 8,
+    }
+}
+
+// An integer read.
+fn integer(width: u8, s: &[u8]) {
+    let r = WireInt::read(s, 0, width_of(width));
+    let IntRead::Value(n, after) = r else {
+        refusal(r.number());
+        return;
+    };
+    number(b"value ", n.value as u64);
+    next(after);
+}
+
+// An integer written: a byte with the bits above the prefix, then the value in four bytes, the highest first.
+fn written(width: u8, s: &[u8]) {
+    if s.len() != 5 {
+        return;
+    }
+    let high = wide(s[1]) * 256 + wide(s[2]);
+    let low = wide(s[3]) * 256 + wide(s[4]);
+    write(width_of(width), wide(s[0]), high * 65_536 + low);
+}
+
+fn wide(x: u8) -> u32
+    ensures { λ r. ⌜ r ≤ 255 ⌝ }
+{
+    x as u32
+}
+
+fn write(width: u32, top: u32, value: u32)
+    requires { ⌜ (width ≤ 8) × (top ≤ 255) ⌝ }
+{
+    if WireInt::LARGEST < value {
+        return;
+    }
+    let full = 1u32 << width;
+    if 256 - top < full {
+        return;
+    }
+    let mut out = [0u8; 8];
+    let n = WireInt::new(value);
+    let end = n.write(&mut out, 0, width, top);
+    bytes(&out[..end]);
+}
+
+fn string_read(s: &[u8], limit: usize) {
+    let r = read_string(s, 0, limit);
+    let StringRead::Found(place, after) = r else {
+        refusal(r.number());
+        return;
+    };
+    string(b"string ", s, place);
+    next(after);
+}
+
+fn list_read(s: &[u8]) {
+    let r = read_list(s, 0);
+    let ListRead::Found(place, after) = r else {
+        refusal(r.number());
+        return;
+    };
+    list(b"horizon ", s, place);
+    next(after);
+}
+
+fn instruction_read(s: &[u8], r: InstructionRead) {
+    let InstructionRead::Found(place, taken) = r else {
+        refusal(r.number());
+        return;
+    };
+    instruction(s, place);
+    next(taken);
+}
+
+fn instruction(s: &[u8], place: InstructionPlace) {
+    match place {
+        InstructionPlace::Insert(index, n, value) => {
+            number(b"insert ", index.value as u64);
+            name(s, n);
+            string(b" value ", s, value);
+        }
+        InstructionPlace::Delete(index, plain, trailer) => {
+            number(b"delete ", index.value as u64);
+            list(b" horizon ", s, plain);
+            list(b", horizon ", s, trailer);
+        }
+        InstructionPlace::Acknowledge(index) => number(b"acknowledge ", index.value as u64),
+    }
+}
+
+// A whole block: its representations, if it has no refusal, and the answer.
+fn block(s: &[u8]) {
+    let code = check_block(s);
+    if code == 0 {
+        representations(s);
+    }
+    refusal(code);
+}
+
+fn representations(s: &[u8]) {
+    let mut at: usize = 0;
+    while at < s.len() {
+        let r = read_representation(s, at);
+        let RepresentationRead::Found(place, after) = r else {
+            return;
+        };
+        representation(s, place);
+        at = after;
+    }
+}
+
+fn representation(s: &[u8], place: RepresentationPlace) {
+    match place {
+        RepresentationPlace::Indexed(index) => number(b"indexed ", index.value as u64),
+        RepresentationPlace::Literal(flag, n, value) => {
+            number(b"literal ", flag as u64);
+            name(s, n);
+            string(b" value ", s, value);
+        }
+    }
+    words(b"; ");
+}

@@ -1,0 +1,84 @@
+// What was read, written out.
+ghost use Prim.Native.Nat.{ℕ, _≤_};
+use wire::name::NamePlace;
+use wire::stream_list::DeltaRead;
+use wire::stream_list::HORIZON_LIMIT;
+use wire::stream_list::ListPlace;
+use wire::stream_list::read_delta;
+use wire::text::StringPlace;
+
+pub fn words(text: &[u8]) {
+    io::write_all(1, text);
+}
+
+// A number, after what it is.
+pub fn number(label: &[u8], n: u64) {
+    words(label);
+    io::print_decimal(1, n);
+}
+
+pub fn refusal(n: u8) {
+    number(b"answer ", n as u64);
+}
+
+pub fn next(n: usize) {
+    number(b" next ", n as u64);
+}
+
+// Bytes in hexadecimal.
+pub fn bytes(s: &[u8]) {
+    let mut i: usize = 0;
+    while i < s.len() {
+        io::print_hex(1, s[i] as u64, 2);
+        i += 1;
+    }
+}
+
+// The bytes of a string of at most 256 bytes that lies in `s`, as every string that was read does.
+pub fn string(label: &[u8], s: &[u8], place: StringPlace) {
+    words(label);
+    if 256 < place.length(s) {
+        words(b"long");
+        return;
+    }
+    if s.len() < place.start || s.len() - place.start < place.size {
+        words(b"outside");
+        return;
+    }
+    let mut text = [0u8; 256];
+    let end = place.copy(s, &mut text, 0);
+    bytes(&text[..end]);
+}
+
+pub fn name(s: &[u8], place: NamePlace) {
+    match place {
+        NamePlace::Index(index) => number(b" name index ", index.value as u64),
+        NamePlace::Text(text) => string(b" name ", s, text),
+    }
+}
+
+// The horizon of a list, and its streams where the horizon is in its range, as that of every list that was read is.
+pub fn list(label: &[u8], s: &[u8], place: ListPlace) {
+    number(label, place.horizon as u64);
+    words(b" streams");
+    if place.horizon <= HORIZON_LIMIT {
+        streams(s, place);
+    }
+}
+
+fn streams(s: &[u8], place: ListPlace)
+    requires { ⌜ place .horizon ≤ 4096 ⌝ }
+{
+    let mut last = place.horizon;
+    let mut at = place.deltas;
+    let count = place.count;
+    for _ in 0..count {
+        let r = read_delta(s, at, last);
+        let DeltaRead::Stream(stream, after) = r else {
+            return;
+        };
+        last = stream.value as u32;
+        number(b" ", last as u64);
+        at = after;
+    }
+}
