@@ -5,7 +5,7 @@ pub mod Bounds
 pub mod Fuel
 pub mod Back
 pub mod Whole
-pub mod Refusals
+pub mod Told
 pub mod RepresentationKept
 pub mod MeaningLaws
 pub mod MeaningHeld

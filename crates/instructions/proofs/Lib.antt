@@ -6,4 +6,4 @@ pub mod Kept
 pub mod Cut
 pub mod Lengths
 pub mod Vectors
-pub mod Refusals
+pub mod Told

@@ -6,4 +6,4 @@ pub mod Lengths
 pub mod Shortest
 pub mod Kept
 pub mod Vectors
-pub mod Refusals
+pub mod Told

@@ -33,15 +33,15 @@ pub fn answer(kind: u8, width: u8, s: &[u8]) {
         b'n' => string_read(s, NAME_LIMIT),
         b'v' => string_read(s, VALUE_LIMIT),
         b'l' => list_read(s),
-        b'd' => instruction_read(s, read_for_decoder(s)),
-        b'e' => instruction_read(s, read_for_encoder(s)),
+        b'd' => instruction(s, read_for_decoder(s)),
+        b'e' => instruction(s, read_for_encoder(s)),
         b'b' => block(s),
         b'f' => refusal(check_list(s)),
         _ => words(b"?"),
     }
 }
 
-// The width that a digit says, from 1 to 8; 8 for any other character.
+// The prefix width that a digit says: 1, 5, 6 or 7, and 8 for any other character.
 fn width_of(digit: u8) -> u32
     ensures { λ r. ⌜ (1 ≤ r) × (r ≤ 8) ⌝ }
 {
@@ -81,6 +81,7 @@ fn wide(x: u8) -> u32
     x as u32
 }
 
+// Nothing for a value that is too large, or where the bits `top` are not above the prefix.
 fn write(width: u32, top: u32, value: u32)
     requires { ⌜ (width ≤ 8) × (top ≤ 255) ⌝ }
 {
@@ -117,16 +118,11 @@ fn list_read(s: &[u8]) {
     next(after);
 }
 
-fn instruction_read(s: &[u8], r: InstructionRead) {
+fn instruction(s: &[u8], r: InstructionRead) {
     let InstructionRead::Found(place, taken) = r else {
         refusal(r.number());
         return;
     };
-    instruction(s, place);
-    next(taken);
-}
-
-fn instruction(s: &[u8], place: InstructionPlace) {
     match place {
         InstructionPlace::Insert(index, n, value) => {
             number(b"insert ", index.value as u64);
@@ -140,6 +136,7 @@ fn instruction(s: &[u8], place: InstructionPlace) {
         }
         InstructionPlace::Acknowledge(index) => number(b"acknowledge ", index.value as u64),
     }
+    next(taken);
 }
 
 // A whole block: its representations, if it has no refusal, and the answer.

@@ -3,12 +3,11 @@
 // must be written, as the papers have it.
 mod answers;
 mod show;
-mod text;
 
 use answers::answer;
+use hex::line_end;
+use hex::unhex;
 use show::words;
-use text::line_end;
-use text::unhex;
 
 fn main() {
     let mut input = io::large_buffer();

@@ -9,4 +9,4 @@ pub mod ListWriting
 pub mod ListBack
 pub mod ListKept
 pub mod ListVectors
-pub mod Refusals
+pub mod Told

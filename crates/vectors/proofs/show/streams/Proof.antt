@@ -48,7 +48,8 @@ loop-less c = search needs
 
 loop-again : tie.Need-loop-again Inv-loop μ-loop
 loop-again c =
-    let d = delta-good _ _ _ _ _ (sym (c .before .before .before .before .before .before .read-delta .ensures) ∙ c .before .before .before .before .r .given .1) in
+    let b = c .before .before .before .before in
+    let d = delta-good _ _ _ _ _ (sym (b .before .before .read-delta .ensures) ∙ b .r .given .1) in
     omega (arith, d .allowed)
 
 returns-2 : tie.Need-returns-2 Inv-loop μ-loop

@@ -1,7 +1,7 @@
-// Lines and hexadecimal digits.
-ghost use Prim.Native.Nat.{ℕ, _+_, _≤_};
+// Lines of text, and bytes written as hexadecimal digits: what the programs that read vectors share.
+ghost use Prim.Native.Nat.{ℕ, _≤_};
 ghost use lib.ListN.{length};
-ghost use Rattle.io.specs.Counts.{Counts};
+ghost use Rattle.hex.specs.Counts.{Counts};
 
 // The end of the line that begins at the place `at`: its newline, or the end of the text.
 pub fn line_end(text: &[u8], at: usize) -> usize

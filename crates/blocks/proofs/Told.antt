@@ -8,10 +8,10 @@ use lib.Dec.{ltb, leb}
 use Rattle.memory.proofs.Order.{pick-both, need-both}
 use Rattle.integers.specs.Answers.{Refuses}
 use Rattle.integers.specs.Integer.{readInt}
-use Rattle.integers.proofs.Refusals.{Told, int-told, told-on-int}
+use Rattle.integers.proofs.Told.{Told, int-told, told-on-int}
 use Rattle.wire.specs.Text.{readString}
 use Rattle.wire.specs.Name.{readName}
-use Rattle.wire.proofs.Refusals.{string-told, name-told, told-on-string, told-on-name}
+use Rattle.wire.proofs.Told.{string-told, name-told, told-on-string, told-on-name}
 use Rattle.blocks.specs.Representation.{Representation}
 use Rattle.blocks.specs.Reading.{
   onRepresentation,

@@ -1,9 +1,9 @@
--- `text::line_end` meets its contract. The invariant: the place is in the line, from its start to the end of the text.
+-- `hex::line_end` meets its contract. The invariant: the place is in the line, from its start to the end of the text.
 use Prim.Native.Nat.{_-_, _≤_}
 use native.Mathlib.Omega.{arith}
 use lib.ListN.{length}
-use Rattle.vectors.proofs.text.line_end.Statement.{statement}
-use Rattle.vectors.proofs.text.line_end.Tie as tie
+use Rattle.hex.proofs.line_end.Statement.{statement}
+use Rattle.hex.proofs.line_end.Tie as tie
 
 abbrev Inv-loop : tie.InvT-loop
 Inv-loop text at i₀ i = (at ≤ i) × (i ≤ length text)

@@ -7,7 +7,7 @@ use lib.Dec.{ltb, leb, eqb}
 use Rattle.memory.proofs.Order.{pick-both, need-both}
 use Rattle.integers.specs.Answers.{Refuses}
 use Rattle.integers.specs.Integer.{readInt}
-use Rattle.integers.proofs.Refusals.{Told, int-told, told-on-int}
+use Rattle.integers.proofs.Told.{Told, int-told, told-on-int}
 use Rattle.wire.specs.Text.{onString, readString, stringAfter}
 use Rattle.wire.specs.Name.{onName, readName}
 use Rattle.wire.specs.StreamList.{onDelta, onDeltas, onList, readDelta, readDeltas, readList}

@@ -1,13 +1,13 @@
--- `text::unhex` meets its contract. The invariant: the bytes that were put lie in `out`, whose length does not change, and `high` is a digit or 16.
+-- `hex::unhex` meets its contract. The invariant: the bytes that were put lie in `out`, whose length does not change, and `high` is a digit or 16.
 use mathlib.Core.Path.{_≡_, sym}
 use Prim.Native.Nat.{ℕ, _-_, _≤_}
 use mathlib.Core.List.{List}
 use native.Mathlib.Omega.{arith}
 use lib.ListN.{length, length-set}
 use lib.Seq.{length-take-le}
-use Rattle.io.specs.Counts.{Counts}
-use Rattle.vectors.proofs.text.unhex.Statement.{statement}
-use Rattle.vectors.proofs.text.unhex.Tie as tie
+use Rattle.hex.specs.Counts.{Counts}
+use Rattle.hex.proofs.unhex.Statement.{statement}
+use Rattle.hex.proofs.unhex.Tie as tie
 
 counted : (n : ℕ) (xs : List ℕ) → n ≤ length xs → Counts n xs
 counted n xs h = (h, sym (length-take-le n xs h))

@@ -7,11 +7,11 @@ use Rattle.memory.proofs.Order.{pick-both, need-both}
 use Rattle.integers.specs.Answers.{Refuses}
 use Rattle.integers.specs.Integer.{readInt}
 use Rattle.integers.specs.declared.number.TableIndex.{TableIndex}
-use Rattle.integers.proofs.Refusals.{Told, int-told, told-on-int}
+use Rattle.integers.proofs.Told.{Told, int-told, told-on-int}
 use Rattle.wire.specs.Text.{readString}
 use Rattle.wire.specs.Name.{readName}
 use Rattle.wire.specs.StreamList.{readList}
-use Rattle.wire.proofs.Refusals.{string-told, name-told, list-told, told-on-string, told-on-name, told-on-list}
+use Rattle.wire.proofs.Told.{string-told, name-told, list-told, told-on-string, told-on-name, told-on-list}
 use Rattle.instructions.specs.Reading.{
   onIndex,
   readIndex,

@@ -1,0 +1,2 @@
+-- What the programs that read vectors share.
+pub mod Counts
