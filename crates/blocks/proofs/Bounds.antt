@@ -9,9 +9,9 @@ use lib.ListN.{length, getD}
 use lib.Dec.{ltb, lit≤}
 use Rattle.memory.specs.Choice.{pick}
 use Rattle.memory.proofs.Order.{split}
-use Rattle.integers.specs.Integer.{largest, readInt}
+use Rattle.integers.specs.Integer.{readInt}
 use Rattle.integers.proofs.Bounds.{int-good}
-use Rattle.wire.specs.Text.{InText, readString, stringLength}
+use Rattle.wire.specs.Text.{readString}
 use Rattle.wire.specs.Name.{FineName, nameOf, readName, GoodName}
 use Rattle.wire.proofs.TextBounds.{string-good, string-size, string-bytes-kept, name-good, name-of-kept}
 use Rattle.blocks.specs.Representation.{literal, Fine}

@@ -1,7 +1,6 @@
 -- Representations and whole blocks are refused by numbers of reading alone, along the definitions; so an answer 0 is that of a block that was read.
 use mathlib.Core.Path.{_≡_, refl}
 use Prim.Native.Nat.{ℕ, zero, suc}
-use native.Mathlib.Omega.{arith}
 use mathlib.Core.List.{List, [], _∷_, _++_}
 use lib.ListN.{length, getD}
 use lib.Dec.{ltb, leb}

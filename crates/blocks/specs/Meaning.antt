@@ -3,7 +3,7 @@ use Prim.Native.Nat.{ℕ}
 use mathlib.Core.List.{List, [], _∷_, _++_, List·Memᴰ}
 use lib.Dec.{leb}
 use Rattle.memory.specs.Choice.{pick}
-use Rattle.wire.specs.Name.{Name, indexed as by-index, literal as by-bytes}
+use Rattle.wire.specs.Name.{indexed as by-index, literal as by-bytes}
 use Rattle.statics.specs.Table.{Entry, entryAt}
 use Rattle.fields.specs.Form.{Field}
 use Rattle.blocks.specs.Representation.{Representation, indexed, literal}

@@ -7,9 +7,9 @@ use mathlib.Core.List.{List}
 use lib.ListN.{length, getD}
 use Rattle.memory.proofs.Order.{split}
 use Rattle.integers.specs.Integer.{readInt}
-use Rattle.wire.specs.Text.{InText, readString, stringLength}
+use Rattle.wire.specs.Text.{readString}
 use Rattle.wire.specs.Name.{FineName, nameOf, readName, GoodName}
-use Rattle.wire.specs.StreamList.{readDeltas, readList, listOf, InList}
+use Rattle.wire.specs.StreamList.{readList, listOf, InList}
 use Rattle.integers.specs.declared.number.TableIndex.{TableIndex}
 use Rattle.integers.specs.declared.integer.IntRead.{IntRead}
 use Rattle.integers.specs.declared.integer.IntRead.the-variants.{Value, Refused as IntRefused}
@@ -20,18 +20,17 @@ use Rattle.wire.specs.declared.name.NamePlace.the-variants.{Index as NameIndex,
 use Rattle.wire.specs.declared.name.NameRead.{NameRead}
 use Rattle.wire.specs.declared.name.NameRead.the-variants.{Found as NameFound, Refused as NameRefused}
 use Rattle.wire.specs.declared.stream_list.ListPlace.{ListPlace}
-use Rattle.wire.specs.declared.stream_list.DeltasRead.the-variants.{End}
 use Rattle.wire.specs.declared.stream_list.ListRead.{ListRead}
 use Rattle.wire.specs.declared.stream_list.ListRead.the-variants.{Found as ListFound, Refused as ListRefused}
 use Rattle.integers.proofs.Bounds.{int-good}
 use Rattle.wire.proofs.TextBounds.{string-good, string-size, name-good}
 use Rattle.wire.proofs.ListBounds.{ListGood, list-good}
-use Rattle.instructions.specs.Instruction.{Instruction, insert, delete, acknowledge, FineIndex, FineList, Fine, Manages}
+use Rattle.instructions.specs.Instruction.{FineIndex, FineList, Fine, Manages}
 use Rattle.instructions.specs.Reading.{readIndex, readInsert, readDelete, readAcknowledgement, readForDecoder, readForEncoder, instructionOf, InBytes}
 use Rattle.instructions.specs.declared.read.IndexRead.{IndexRead}
 use Rattle.instructions.specs.declared.read.IndexRead.the-variants.{Index, Refused as IndexRefused}
 use Rattle.instructions.specs.declared.read.InstructionPlace.{InstructionPlace}
-use Rattle.instructions.specs.declared.read.InstructionPlace.the-variants.{Insert, Delete, Acknowledge}
+use Rattle.instructions.specs.declared.read.InstructionPlace.the-variants.{Acknowledge}
 use Rattle.instructions.specs.declared.read.InstructionRead.{InstructionRead}
 use Rattle.instructions.specs.declared.read.InstructionRead.the-variants.{Found, Refused}
 use Rattle.instructions.proofs.Equations.{

@@ -6,7 +6,6 @@ use lib.ListN.{length, getD}
 use lib.Dec.{ltb, leb}
 use Rattle.memory.specs.Choice.{pick}
 use Rattle.integers.specs.Answers.{Answer, done, refusal, truncated, too-large}
-use Rattle.integers.specs.declared.integer.WireInt.{WireInt}
 use Rattle.integers.specs.declared.integer.IntRead.{IntRead}
 use Rattle.integers.specs.declared.integer.IntRead.the-variants.{Value, Refused}
 

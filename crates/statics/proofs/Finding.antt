@@ -5,14 +5,12 @@ use Prim.Native.Nat.{ℕ, zero, suc, _+_, _-_, _≤_, _<_}
 use native.Mathlib.Nat.{add-zero, zero-add, suc-add}
 use native.Mathlib.Omega.{arith}
 use mathlib.Core.List.{List}
-use Rattle.memory.specs.Choice.{pick}
 use Rattle.memory.specs.Compare.{same}
 use Rattle.memory.proofs.Order.{split, either, pick-true, pick-false, not-both}
 use Rattle.memory.proofs.Sameness.{same-eq, eq-same}
 use Rattle.integers.specs.declared.number.TableIndex.{TableIndex}
 use Rattle.statics.specs.Table.{staticName, staticValue}
 use Rattle.statics.specs.Search.{hasName, hasBoth, lowest, lowestName, lowestBoth, findName, findBoth}
-use Rattle.statics.specs.declared.search.StaticFound.{StaticFound}
 use Rattle.statics.specs.declared.search.StaticFound.the-variants.{At, Nothing}
 
 -- i is the lowest number from `from` on, and below `end`, of which P holds

@@ -2,13 +2,13 @@
 -- names and values are short, and of bytes, is a computed test.
 use mathlib.Core.Path.{_≡_, refl, sym, subst}
 use mathlib.Core.Bool.{Bool, true, false}
-use Prim.Native.Nat.{ℕ, zero, suc, _+_, _-_, _≤_, _<_}
+use Prim.Native.Nat.{ℕ, zero, suc, _+_, _-_, _≤_}
 use native.Mathlib.Omega.{arith}
 use mathlib.Core.List.{List, [], _∷_}
 use lib.Dec.{T, leb, ltb, leb→le, ltb→lt}
 use lib.ListN.{length, getD}
 use Rattle.memory.specs.Bytes.{part, Small}
-use Rattle.statics.specs.Table.{Entry, entries, entryAt, textOf, staticText, staticName, staticValue, placeIn, placeOf}
+use Rattle.statics.specs.Table.{Entry, entries, entryAt, textOf, staticText, staticName, staticValue, placeOf}
 use Rattle.statics.specs.declared.table.StaticPlace.{StaticPlace}
 use Rattle.statics.proofs.Entries.{Stands, stands}
 

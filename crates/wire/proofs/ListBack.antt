@@ -1,6 +1,6 @@
 -- A stream list reads back as it was written, by `int-back` for each of its numbers; and how many bytes it takes.
 use mathlib.Core.Path.{_≡_, refl, sym, ap, _∙_}
-use Prim.Native.Nat.{ℕ, zero, suc, _+_, _-_, _*_, _≤_, _<_}
+use Prim.Native.Nat.{ℕ, suc, _+_, _-_, _*_, _≤_, _<_}
 use native.Mathlib.Omega.{arith}
 use native.Mathlib.Numerals.{sub-one}
 use native.Mathlib.Nat.{add-zero}
@@ -8,8 +8,8 @@ use mathlib.Core.List.{List, [], _∷_, _++_}
 use lib.ListN.{length, length-append}
 use Rattle.memory.specs.Bytes.{Has}
 use Rattle.memory.proofs.Places.{has-left, has-right}
-use Rattle.integers.specs.Integer.{readInt, value, intWire}
-use Rattle.wire.specs.StreamList.{StreamList, readDelta, readDeltas, streamsFrom, listOf, readList, Fits, deltasWire, listWire}
+use Rattle.integers.specs.Integer.{value, intWire}
+use Rattle.wire.specs.StreamList.{readDelta, readDeltas, streamsFrom, listOf, readList, Fits, deltasWire, listWire}
 use Rattle.wire.specs.declared.stream_list.ListPlace.{ListPlace}
 use Rattle.wire.specs.declared.stream_list.DeltaRead.the-variants.{Stream}
 use Rattle.wire.specs.declared.stream_list.DeltasRead.the-variants.{End}

@@ -7,21 +7,7 @@ use native.Mathlib.Numerals.{sub-one}
 use mathlib.Core.List.{List, _∷_, _++_}
 use lib.Dec.{leb}
 use Rattle.integers.specs.Integer.{readInt}
-use Rattle.wire.specs.StreamList.{
-  StreamList,
-  deltaAnswer,
-  deltasAnswer,
-  listAnswer,
-  onDelta,
-  onDeltas,
-  onList,
-  readDelta,
-  readDeltas,
-  streamsFrom,
-  listOf,
-  readList,
-}
-use Rattle.integers.specs.declared.number.StreamNumber.{StreamNumber}
+use Rattle.wire.specs.StreamList.{deltaAnswer, deltasAnswer, listAnswer, onDelta, onDeltas, onList, readDelta, readDeltas, streamsFrom, listOf, readList}
 use Rattle.wire.specs.declared.stream_list.ListPlace.{ListPlace}
 use Rattle.wire.specs.declared.stream_list.DeltaRead.{DeltaRead}
 use Rattle.wire.specs.declared.stream_list.DeltaRead.the-variants.{Stream, Refused as DeltaRefused}

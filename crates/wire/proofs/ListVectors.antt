@@ -1,6 +1,6 @@
 -- Document 01, check 8: "List 03 02 01 03 names 0, 1, 2, 4 and 7, not 3", computed from the definitions, and the refusals at their limits.
 use mathlib.Core.Path.{_≡_, refl}
-use mathlib.Core.Bool.{Bool, true, false}
+use mathlib.Core.Bool.{true, false}
 use mathlib.Core.List.{List, [], _∷_}
 use Prim.Native.Nat.{ℕ}
 use Rattle.integers.specs.Integer.{readInt, groups, intWire, groupWire}
@@ -17,7 +17,6 @@ use Rattle.wire.specs.StreamList.{
   listWire,
 }
 use Rattle.wire.specs.declared.stream_list.ListPlace.{ListPlace}
-use Rattle.wire.specs.declared.stream_list.ListRead.{ListRead}
 use Rattle.wire.specs.declared.stream_list.ListRead.the-variants.{Found, Refused}
 
 abbrev bytes : List ℕ

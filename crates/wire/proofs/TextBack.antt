@@ -7,7 +7,7 @@ use mathlib.Core.List.{List}
 use lib.ListN.{length, getD}
 use Rattle.memory.specs.Bytes.{Has}
 use Rattle.memory.proofs.Places.{has-left, has-right, has-end, has-part}
-use Rattle.integers.specs.Integer.{intWire, largest}
+use Rattle.integers.specs.Integer.{intWire}
 use Rattle.wire.specs.Text.{readString, stringWire, stringLength, stringBytes}
 use Rattle.wire.specs.Name.{Name, FineName, nameOf, readName, nameWire}
 use Rattle.wire.specs.declared.text.StringPlace.{StringPlace}

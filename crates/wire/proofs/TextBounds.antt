@@ -8,7 +8,7 @@ use mathlib.Core.List.{List, _++_}
 use lib.ListN.{length, getD, take, drop, length-drop, length-append}
 use lib.Seq.{length-take-le, take-append-le, drop-append-le}
 use Rattle.memory.proofs.Order.{split}
-use Rattle.integers.specs.Integer.{readInt, largest}
+use Rattle.integers.specs.Integer.{readInt}
 use Rattle.wire.specs.Text.{InText, readString, stringAfter, stringLength, stringBytes}
 use Rattle.wire.specs.Name.{GoodName, Name, nameOf, readName}
 use Rattle.integers.specs.declared.integer.WireInt.{WireInt}

@@ -1,21 +1,18 @@
 -- An answer other than 2 does not change when bytes are added behind: strings over the limit, names over the width.
 -- Each reader is a chain of tests and readers, kept link by link.
-use mathlib.Core.Path.{_≡_, refl, ap, _∙_}
-use mathlib.Core.Bool.{Bool, true, false}
-use Prim.Native.Nat.{ℕ, zero, suc, _+_, _-_, _*_, _%_, _^_, _≤_, _<_}
+use mathlib.Core.Path.{_≡_, refl}
+use Prim.Native.Nat.{ℕ, _+_, _-_}
 use native.Mathlib.Omega.{arith}
 use mathlib.Core.List.{List, _++_}
-use lib.ListN.{length, getD, length-append, List·getD-append}
+use lib.ListN.{length, getD, length-append}
 use lib.Dec.{ltb, leb, eqb}
-use borrow.Author.Tests.{lt-ltb, ltb-true, le-leb, leb-true}
-use Rattle.memory.specs.Choice.{pick, need}
+use borrow.Author.Tests.{le-leb, leb-true}
 use Rattle.integers.specs.Integer.{readInt}
 use Rattle.wire.specs.Text.{stringAnswer, onString, readString, stringAfter, nameLimit}
 use Rattle.wire.specs.Name.{nameAnswer, onName, readName}
 use Rattle.wire.specs.declared.text.StringPlace.{StringPlace}
 use Rattle.wire.specs.declared.text.StringRead.{StringRead}
 use Rattle.wire.specs.declared.text.StringRead.the-variants.{Found, Refused as StringRefused}
-use Rattle.integers.specs.declared.number.TableIndex.{TableIndex}
 use Rattle.wire.specs.declared.name.NamePlace.{NamePlace}
 use Rattle.wire.specs.declared.name.NamePlace.the-variants.{Index, Text}
 use Rattle.wire.specs.declared.name.NameRead.{NameRead}

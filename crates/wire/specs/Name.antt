@@ -7,8 +7,6 @@ use Rattle.memory.specs.Choice.{pick}
 use Rattle.integers.specs.Answers.{Answer, done, refusal}
 use Rattle.integers.specs.Integer.{largest, readInt, onInt, intWire}
 use Rattle.wire.specs.Text.{InText, stringLength, stringBytes, readString, onString, stringWire, nameLimit}
-use Rattle.integers.specs.declared.number.TableIndex.{TableIndex}
-use Rattle.wire.specs.declared.text.StringPlace.{StringPlace}
 use Rattle.wire.specs.declared.name.NamePlace.{NamePlace}
 use Rattle.wire.specs.declared.name.NamePlace.the-variants.{Index, Text}
 use Rattle.wire.specs.declared.name.NameRead.{NameRead}

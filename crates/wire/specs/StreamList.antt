@@ -9,7 +9,6 @@ use lib.Dec.{ltb, leb, eqb}
 use Rattle.memory.specs.Choice.{pick, need}
 use Rattle.integers.specs.Answers.{Answer, done, refusal, bad-stream-list}
 use Rattle.integers.specs.Integer.{readInt, onInt, intWire}
-use Rattle.integers.specs.declared.number.StreamNumber.{StreamNumber}
 use Rattle.wire.specs.declared.stream_list.ListPlace.{ListPlace}
 use Rattle.wire.specs.declared.stream_list.DeltaRead.{DeltaRead}
 use Rattle.wire.specs.declared.stream_list.DeltaRead.the-variants.{Stream, Refused as DeltaRefused}

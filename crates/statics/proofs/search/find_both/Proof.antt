@@ -1,6 +1,6 @@
 -- `statics::search::find_both` meets its contract. The loop's invariant: what is sought is the lowest index from `i` on.
 use mathlib.Core.Path.{_≡_, refl, sym, _∙_}
-use Prim.Native.Nat.{_+_, _-_, _≤_}
+use Prim.Native.Nat.{_-_, _≤_}
 use native.Mathlib.Omega.{arith}
 use Rattle.statics.specs.Search.{lowestBoth}
 use Rattle.statics.proofs.Finding.{turn-here, turn-next, turn-done}

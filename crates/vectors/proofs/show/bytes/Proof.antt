@@ -1,5 +1,5 @@
 -- `show::bytes` meets its contract. The measure is what is left of the bytes.
-use Prim.Native.Nat.{_-_, _≤_}
+use Prim.Native.Nat.{_-_}
 use native.Mathlib.Omega.{arith}
 use lib.ListN.{length}
 use Rattle.vectors.proofs.show.bytes.Statement.{statement}

@@ -1,5 +1,5 @@
 -- `read_delta` answers what `readDelta` says: each way out is one equation of `ListLaws`.
-use mathlib.Core.Path.{_≡_, refl, sym, ap, _∙_}
+use mathlib.Core.Path.{sym, ap, _∙_}
 use native.Mathlib.Omega.{arith}
 use Rattle.integers.specs.Integer.{intAnswer}
 use Rattle.integers.specs.declared.integer.IntRead.{IntRead}

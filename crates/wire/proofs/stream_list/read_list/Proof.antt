@@ -1,6 +1,5 @@
 -- `read_list` answers what `readList` says: each way out is one equation of `ListLaws`.
-use mathlib.Core.Path.{_≡_, refl, sym, ap, _∙_}
-use native.Mathlib.Omega.{arith}
+use mathlib.Core.Path.{sym, ap, _∙_}
 use Rattle.integers.specs.Integer.{intAnswer}
 use Rattle.wire.specs.StreamList.{deltasAnswer}
 use Rattle.integers.specs.declared.integer.IntRead.{IntRead}

@@ -1,9 +1,9 @@
 -- `write_deltas` writes `deltasWire`. The invariant: the bytes left, stored from `next` on, give what the whole is to give.
-use Prim.Native.Nat.{ℕ, _+_, _-_, _≤_, _<_}
+use Prim.Native.Nat.{_+_, _-_, _≤_}
 use mathlib.Core.Path.{_≡_, refl, sym, ap, _∙_}
 use native.Mathlib.Omega.{arith}
 use borrow.Author.Needs.{needs}
-use lib.ListN.{length, getD, drop}
+use lib.ListN.{length, drop}
 use denote.Ref.{now}
 use Rattle.memory.specs.Bytes.{overlay}
 use Rattle.wire.specs.StreamList.{Fits, deltasWire}

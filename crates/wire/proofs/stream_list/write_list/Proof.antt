@@ -1,6 +1,5 @@
 -- `write_list` writes `listWire`: the three parts, each stored behind the one before, are the list's bytes stored at once.
-use Prim.Native.Nat.{ℕ, _+_, _≤_}
-use mathlib.Core.Path.{_≡_, refl, sym, ap, _∙_}
+use mathlib.Core.Path.{refl}
 use native.Mathlib.Omega.{arith}
 use denote.Ref.{now}
 use Rattle.wire.proofs.ListWriting.{list-length, list-stored}
