@@ -1,0 +1,77 @@
+-- The events of a list of calls at two ends that start fresh, as a definition that computes: `unfolding run` unfolds all that the calls use.
+-- For closed examples, whose events and tables are then found by `refl`.
+use Prim.Native.Nat.{ℕ}
+use mathlib.Core.List.{List}
+use Rattle.memory.specs.Compare.{same}
+use Rattle.integers.specs.Integer.{intWire, groupWire}
+use Rattle.wire.specs.Text.{stringWire}
+use Rattle.wire.specs.Name.{nameWire}
+use Rattle.wire.specs.StreamList.{names, listed, listWire, deltasWire}
+use Rattle.statics.specs.Table.{entries, entryAt}
+use Rattle.statics.specs.Search.{hasName, hasBoth, lowest as lowest-static, lowestName, lowestBoth}
+use Rattle.fields.specs.Form.{textForm, fieldForm, listForm}
+use Rattle.instructions.specs.Instruction.{instructionWire}
+use Rattle.blocks.specs.Representation.{representationWire, blockWire}
+use Rattle.blocks.specs.Meaning.{withStatics, fieldMeaning, blockMeaning, blockReferences}
+use Rattle.model.specs.Table.{size, look, put, cut, lowest, vacantFrom, total}
+use Rattle.model.specs.Parts.{partOf, mark, markBoth, inTurn, namesPart, isOpen, openBelow, isReady}
+use Rattle.model.specs.Decoder.{
+  heldSize,
+  slotIn,
+  lookup,
+  deleteOf,
+  startDecoder,
+  slotName,
+  nameBytes,
+  insertNamed,
+  deleteEntry,
+  readInstruction,
+  giveFields,
+  decodePart,
+  decodeBlock,
+  endStream,
+  readyDelete,
+  ready,
+  nextFreed,
+  without,
+  freeEntry,
+  collectEntry,
+}
+use Rattle.model.specs.Encoder.{
+  sentSize,
+  startEncoder,
+  serves,
+  servesBoth,
+  dynamicName,
+  staticName,
+  chooseName,
+  dynamicField,
+  staticField,
+  choose,
+  insertAt,
+  insertEntry,
+  deleteAt,
+  deleteFound,
+  deleteSent,
+  mentions,
+  referred,
+  refer,
+  writePart,
+  encodePart,
+  encodeBlock,
+  acknowledgeFound,
+  readAck,
+}
+use Rattle.model.specs.EncoderCalls.{encoderCall}
+use Rattle.model.specs.Events.{LinkCall, Event, saidBy, wroteBy, encoderEvent, freedBy, toldBy, turn, events, endsAfter, fresh}
+
+unfoldable pub run : ℕ → ℕ → List LinkCall → List Event
+unfolding same intWire groupWire stringWire nameWire names listed listWire deltasWire entries entryAt hasName hasBoth lowest-static lowestName lowestBoth
+    textForm fieldForm listForm instructionWire representationWire blockWire withStatics fieldMeaning blockMeaning blockReferences
+    size look put cut lowest vacantFrom total partOf mark markBoth inTurn namesPart isOpen openBelow isReady
+    heldSize slotIn lookup deleteOf startDecoder slotName nameBytes insertNamed deleteEntry readInstruction giveFields decodePart decodeBlock
+    endStream readyDelete ready nextFreed without freeEntry collectEntry
+    sentSize startEncoder serves servesBoth dynamicName staticName chooseName dynamicField staticField choose insertAt insertEntry
+    deleteAt deleteFound deleteSent mentions referred refer writePart encodePart encodeBlock acknowledgeFound readAck
+    encoderCall saidBy wroteBy encoderEvent freedBy toldBy turn events endsAfter fresh
+run encoderLimit decoderLimit cs = events (fresh encoderLimit decoderLimit) cs
