@@ -1,18 +1,17 @@
 -- What the answers say of what a call did: a number other than 0 leaves the state as it was and writes nothing, and where a call writes, 0 tells
 -- how many bytes, and they have room. By the ways through each call.
 use mathlib.Core.Path.{_≡_, refl}
-use Prim.Native.Nat.{ℕ, _≤_}
+use Prim.Native.Nat.{ℕ}
 use native.Mathlib.Omega.{arith}
 use mathlib.Core.List.{List}
 use mathlib.Core.Bool.{false}
-use lib.ListN.{length}
 use lib.Dec.{eqb}
 use borrow.Author.Tests.{eqb-false}
 use Rattle.integers.specs.Answers.{Answer}
 use Rattle.fields.specs.Form.{Field}
 use Rattle.instructions.specs.Instruction.{Instruction, insert, delete, acknowledge}
 use Rattle.blocks.specs.Representation.{Representation}
-use Rattle.model.specs.Outcome.{nothing, outputBytes, Outcome}
+use Rattle.model.specs.Outcome.{nothing, outputBytes}
 use Rattle.model.specs.Decoder.{Decoder, readInstruction}
 use Rattle.model.specs.DecoderCalls.{DecoderCall, decoderCall}
 use Rattle.model.specs.DecoderCalls as at-decoder

@@ -1,5 +1,5 @@
--- A collect that frees an entry is the core's: the entry is under deletion, and all that its lists name is finished. A delete is ready exactly
--- where the core finds all its parts finished, since fine lists name streams below 4,096 alone.
+-- A collect that frees an entry frees its slot: the entry is under deletion, and all that its lists name is finished. A delete is ready exactly
+-- where all its named parts are marked, since fine lists name streams below 4,096 alone.
 use mathlib.Core.Path.{_≡_, refl, sym, ap, _∙_}
 use mathlib.Core.Logic.{⊎-elim}
 use Prim.Native.Nat.{ℕ, zero, suc, _-_, _≤_, _<_}
@@ -15,148 +15,133 @@ use Rattle.wire.specs.StreamList.{StreamList, listed, names}
 use Rattle.instructions.specs.Instruction.{FineList}
 use Rattle.model.specs.Table.{size, look, cut}
 use Rattle.model.specs.Parts.{Part, nontrailer, trailer, Marks, Delete, namesPart, streams, isReady}
-use Rattle.model.specs.Decoder.{
-  Held,
-  heldIndex,
-  deleteIndex,
-  Decoder,
-  heldSize,
-  deleteOf,
-  readyDelete,
-  ready,
-  nextFreed,
-  without,
-  FormsDecoder,
-}
+use Rattle.model.specs.Decoder.{Held, heldIndex, deleteIndex, Decoder, heldSize, deleteOf, readyDelete, ready, nextFreed, without, FormsDecoder}
 use Rattle.model.proofs.Tables.{nope, total-cut}
 use Rattle.model.proofs.Forms.{freed-held}
-use Rattle.model.proofs.Marks.{OpenPart, ready-marked, ready-or, part-low}
-use Rattle.model.proofs.Core.Model.{Stp, Lists, below, each, parts, allFin, dying, sizeOf, free}
-use Rattle.model.proofs.View.{listsOf, slotAt, tabOf, viewD}
-use Rattle.model.proofs.TableView.{tab-cut}
+use Rattle.model.proofs.Marks.{OpenPart, ready-marked, ready-or, part-low, and-both}
+use Rattle.model.proofs.Slots.Machine.{StreamPart, DeleteLists, partsBelow, partsAmong, namedParts, allMarked, deletedSlot, sizeOf, freeAt}
+use Rattle.model.proofs.Slots.Machine.{setSlot}
+use Rattle.model.proofs.View.{listsOf, slotAt, slotsOf, tablesOf}
+use Rattle.model.proofs.TableView.{slots-cut}
 
 -- ---- all parts that the lists name
 module _ (marks : Marks) where
-  all-append : (l m : List Stp) → allFin marks l ≡ true → allFin marks m ≡ true → allFin marks (l ++ m) ≡ true
-  unfolding allFin
+  all-append : (l m : List StreamPart) → allMarked marks l ≡ true → allMarked marks m ≡ true → allMarked marks (l ++ m) ≡ true
+  unfolding allMarked
   all-append [] m h k = k
   all-append (q ∷ l) m h k = go (marks (q .stream) (q .part)) h (λ e. all-append l m e k)
     where
-      go : (b : Bool) → (b && allFin marks l) ≡ true → (allFin marks l ≡ true → allFin marks (l ++ m) ≡ true)
-          → (b && allFin marks (l ++ m)) ≡ true
+      go : (b : Bool) → (b && allMarked marks l) ≡ true → (allMarked marks l ≡ true → allMarked marks (l ++ m) ≡ true)
+          → (b && allMarked marks (l ++ m)) ≡ true
       go true e f = f e
       go false e f = e
 
-  all-below : (p : Part) (n : ℕ) → ((s : ℕ) → s < n → marks s p ≡ true) → allFin marks (below p n) ≡ true
-  unfolding allFin below
+  all-below : (p : Part) (n : ℕ) → ((s : ℕ) → s < n → marks s p ≡ true) → allMarked marks (partsBelow p n) ≡ true
+  unfolding allMarked partsBelow
   all-below p zero h = refl
   all-below p (suc n) h = rw (h n (omega arith)) (all-below p n (λ s l. h s (omega arith)))
 
-  all-each : (p : Part) (l : List ℕ) → ((s : ℕ) → listed l s ≡ true → marks s p ≡ true) → allFin marks (each p l) ≡ true
-  unfolding allFin each listed
+  all-each : (p : Part) (l : List ℕ) → ((s : ℕ) → listed l s ≡ true → marks s p ≡ true) → allMarked marks (partsAmong p l) ≡ true
+  unfolding allMarked partsAmong listed
   all-each p [] h = refl
   all-each p (x ∷ l) h =
       rw (h x (ap (λ (b : Bool). pick b true (listed l x)) (eq-eqb x x refl)))
       (all-each p l (λ s e. h s (pick-both (λ (b : Bool). b ≡ true) (eqb s x) true (listed l s) (λ t. refl) (λ t. e))))
 
   all-list : (p : Part) (l : StreamList) → ((s : ℕ) → names l s ≡ true → marks s p ≡ true)
-      → allFin marks (below p (l .horizon) ++ each p (l .streams)) ≡ true
+      → allMarked marks (partsBelow p (l .horizon) ++ partsAmong p (l .streams)) ≡ true
   unfolding names
   all-list p l h =
-      all-append (below p (l .horizon)) (each p (l .streams))
+      all-append (partsBelow p (l .horizon)) (partsAmong p (l .streams))
       (all-below p (l .horizon) (λ s k. h s (ap (λ (b : Bool). pick b true (listed (l .streams) s)) (lt-ltb s (l .horizon) k))))
       (all-each p (l .streams)
       (λ s e. h s (pick-both (λ (b : Bool). b ≡ true) (ltb s (l .horizon)) true (listed (l .streams) s) (λ t. refl) (λ t. e))))
 
-  pub all-named : (d : Delete) → ((s : ℕ) (p : Part) → namesPart d s p ≡ true → marks s p ≡ true) → allFin marks (parts (listsOf d)) ≡ true
-  unfolding parts namesPart
+  pub all-named : (d : Delete) → ((s : ℕ) (p : Part) → namesPart d s p ≡ true → marks s p ≡ true) → allMarked marks (namedParts (listsOf d)) ≡ true
+  unfolding namedParts namesPart
   all-named d h =
-      all-append (below nontrailer (d .plain .horizon) ++ each nontrailer (d .plain .streams))
-      (below trailer (d .trailer .horizon) ++ each trailer (d .trailer .streams))
+      all-append (partsBelow nontrailer (d .plain .horizon) ++ partsAmong nontrailer (d .plain .streams))
+      (partsBelow trailer (d .trailer .horizon) ++ partsAmong trailer (d .trailer .streams))
       (all-list nontrailer (d .plain) (λ s e. h s nontrailer e)) (all-list trailer (d .trailer) (λ s e. h s trailer e))
 
-  pub ready-parts : (d : Delete) → FineList (d .plain) → FineList (d .trailer) → isReady marks d ≡ true → allFin marks (parts (listsOf d)) ≡ true
+  pub ready-parts : (d : Delete) → FineList (d .plain) → FineList (d .trailer) → isReady marks d ≡ true → allMarked marks (namedParts (listsOf d)) ≡ true
   ready-parts d p t r = all-named d (λ s q n. ready-marked marks d s q r (part-low d s q p t n) n)
 
   -- ---- and each of them, where all are finished
-  and-both : (a b : Bool) → (a && b) ≡ true → (a ≡ true) × (b ≡ true)
-  and-both true b h = (refl, h)
-  and-both false b h = (h, not-both false h refl)
-
-  all-parts : (l m : List Stp) → allFin marks (l ++ m) ≡ true → (allFin marks l ≡ true) × (allFin marks m ≡ true)
-  unfolding allFin
+  all-parts : (l m : List StreamPart) → allMarked marks (l ++ m) ≡ true → (allMarked marks l ≡ true) × (allMarked marks m ≡ true)
+  unfolding allMarked
   all-parts [] m h = (refl, h)
   all-parts (q ∷ l) m h =
-      let b = and-both (marks (q .stream) (q .part)) (allFin marks (l ++ m)) h in
+      let b = and-both (marks (q .stream) (q .part)) (allMarked marks (l ++ m)) h in
       let r = all-parts l m (b .1) in
       (rw (b .0) (r .0), r .1)
 
-  below-marked : (p : Part) (n : ℕ) → allFin marks (below p n) ≡ true → (s : ℕ) → s < n → marks s p ≡ true
-  unfolding allFin below
+  below-marked : (p : Part) (n : ℕ) → allMarked marks (partsBelow p n) ≡ true → (s : ℕ) → s < n → marks s p ≡ true
+  unfolding allMarked partsBelow
   below-marked p zero h s l = absurd (omega arith)
   below-marked p (suc n) h s l =
-      let b = and-both (marks n p) (allFin marks (below p n)) h in
+      let b = and-both (marks n p) (allMarked marks (partsBelow p n)) h in
       split s n (below-marked p n (b .1) s) (λ k. let e : s ≡ n = omega arith in rw e (b .0))
 
-  each-marked : (p : Part) (l : List ℕ) → allFin marks (each p l) ≡ true → (s : ℕ) → listed l s ≡ true → marks s p ≡ true
-  unfolding allFin each listed
+  each-marked : (p : Part) (l : List ℕ) → allMarked marks (partsAmong p l) ≡ true → (s : ℕ) → listed l s ≡ true → marks s p ≡ true
+  unfolding allMarked partsAmong listed
   each-marked p [] h s e = not-both false e refl
   each-marked p (x ∷ l) h s e =
-      let b = and-both (marks x p) (allFin marks (each p l)) h in
+      let b = and-both (marks x p) (allMarked marks (partsAmong p l)) h in
       pick-both (λ (t : Bool). t ≡ true → marks s p ≡ true) (eqb s x) true (listed l s)
       (λ t q. rw (eqb-true s x t) (b .0)) (λ t q. each-marked p l (b .1) s q) e
 
-  list-marked : (p : Part) (l : StreamList) → allFin marks (below p (l .horizon) ++ each p (l .streams)) ≡ true
+  list-marked : (p : Part) (l : StreamList) → allMarked marks (partsBelow p (l .horizon) ++ partsAmong p (l .streams)) ≡ true
       → (s : ℕ) → names l s ≡ true → marks s p ≡ true
   unfolding names
   list-marked p l h s e =
-      let b = all-parts (below p (l .horizon)) (each p (l .streams)) h in
+      let b = all-parts (partsBelow p (l .horizon)) (partsAmong p (l .streams)) h in
       pick-both (λ (t : Bool). t ≡ true → marks s p ≡ true) (ltb s (l .horizon)) true (listed (l .streams) s)
       (λ t q. below-marked p (l .horizon) (b .0) s (ltb-true s (l .horizon) t)) (λ t q. each-marked p (l .streams) (b .1) s q) e
 
-  pub named-marked : (d : Delete) → allFin marks (parts (listsOf d)) ≡ true → (s : ℕ) (p : Part) → namesPart d s p ≡ true → marks s p ≡ true
-  unfolding parts namesPart
+  pub named-marked : (d : Delete) → allMarked marks (namedParts (listsOf d)) ≡ true → (s : ℕ) (p : Part) → namesPart d s p ≡ true → marks s p ≡ true
+  unfolding namedParts namesPart
   named-marked d h s p e = go p e
     where
-      both : (allFin marks (below nontrailer (d .plain .horizon) ++ each nontrailer (d .plain .streams)) ≡ true)
-          × (allFin marks (below trailer (d .trailer .horizon) ++ each trailer (d .trailer .streams)) ≡ true)
+      both : (allMarked marks (partsBelow nontrailer (d .plain .horizon) ++ partsAmong nontrailer (d .plain .streams)) ≡ true)
+          × (allMarked marks (partsBelow trailer (d .trailer .horizon) ++ partsAmong trailer (d .trailer .streams)) ≡ true)
       both =
-          all-parts (below nontrailer (d .plain .horizon) ++ each nontrailer (d .plain .streams))
-          (below trailer (d .trailer .horizon) ++ each trailer (d .trailer .streams)) h
+          all-parts (partsBelow nontrailer (d .plain .horizon) ++ partsAmong nontrailer (d .plain .streams))
+          (partsBelow trailer (d .trailer .horizon) ++ partsAmong trailer (d .trailer .streams)) h
 
       go : (q : Part) → namesPart d s q ≡ true → marks s q ≡ true
       go nontrailer n = list-marked nontrailer (d .plain) (both .0) s n
       go trailer n = list-marked trailer (d .trailer) (both .1) s n
 
   -- a delete is ready exactly where all that it names is finished
-  pub ready-view : (d : Delete) → FineList (d .plain) → FineList (d .trailer) → isReady marks d ≡ allFin marks (parts (listsOf d))
+  pub ready-view : (d : Delete) → FineList (d .plain) → FineList (d .trailer) → isReady marks d ≡ allMarked marks (namedParts (listsOf d))
   ready-view d p t =
       ⊎-elim (λ r. r ∙ sym (ready-parts d p t r))
       (λ (o : OpenPart marks d streams).
       either (isReady marks d) (λ r. r ∙ sym (ready-parts d p t r))
-      (λ r. r ∙ either (allFin marks (parts (listsOf d)))
+      (λ r. r ∙ either (allMarked marks (namedParts (listsOf d)))
       (λ a. not-both (marks (o .stream) (o .part)) (named-marked d a (o .stream) (o .part) (o .named)) (o .unmarked))
       (λ a. sym a)))
       (ready-or marks d)
 
 -- ---- a collect
 pub record Freed (D : Decoder) (h : Held) : Type 0 where
-  pub lists : Lists
-  pub was : viewD D .tab (h .index) ≡ dying (h .entry) lists
-  pub all : allFin (viewD D .fin) (parts lists) ≡ true
-  pub fits : size (h .entry) ≤ viewD D .hold
-  pub view : viewD (without D (h .index)) ≡ free (viewD D) (h .index)
+  pub lists : DeleteLists
+  pub was : tablesOf D .slots (h .index) ≡ deletedSlot (h .entry) lists
+  pub all : allMarked (tablesOf D .finished) (namedParts lists) ≡ true
+  pub fits : size (h .entry) ≤ tablesOf D .filled
+  pub view : tablesOf (without D (h .index)) ≡ freeAt (tablesOf D) (h .index)
 
 module _ (D : Decoder) (F : FormsDecoder D) (h : Held) (there : look heldIndex (h .index) (D .entries) ≡ some h) where
   freed : (d : Option Delete) → look deleteIndex (h .index) (D .deletes) ≡ d → readyDelete (D .finished) d ≡ true → Freed D h
-  unfolding viewD tabOf free without heldSize readyDelete
+  unfolding tablesOf slotsOf freeAt setSlot without heldSize readyDelete
   freed none e r = nope (cc)
   freed (some d) e r =
       let fine = F .deletes (h .index) d e in
       let sum = total-cut heldIndex (λ x. size (x .entry)) (h .index) (D .entries) h there in
-      let slot : slotAt (look heldIndex (h .index) (D .entries)) (look deleteIndex (h .index) (D .deletes)) ≡ dying (h .entry) (listsOf d) =
+      let slot : slotAt (look heldIndex (h .index) (D .entries)) (look deleteIndex (h .index) (D .deletes)) ≡ deletedSlot (h .entry) (listsOf d) =
       rw (there, e) in
-      let t = tab-cut D F (h .index) in
+      let t = slots-cut D F (h .index) in
       let weight = ap sizeOf slot in
       let w : heldSize (cut heldIndex (h .index) (D .entries))
       ≡ heldSize (D .entries) - sizeOf (slotAt (look heldIndex (h .index) (D .entries)) (look deleteIndex (h .index) (D .deletes))) = omega arith in
@@ -165,7 +150,7 @@ module _ (D : Decoder) (F : FormsDecoder D) (h : Held) (there : look heldIndex (
         was = slot;
         all = ready-parts (D .finished) d (fine .plain) (fine .trailer) r;
         fits = omega arith;
-        view = λ k. record { tab = t k; fin = D .finished; hold = w k; limit = D .limit };
+        view = λ k. record { slots = t k; finished = D .finished; filled = w k; limit = D .limit };
       }
 
 pub collect-view : (D : Decoder) → FormsDecoder D → (h : Held) → nextFreed D ≡ some h → Freed D h

@@ -16,23 +16,8 @@ use Rattle.integers.specs.Answers.{no-room}
 use Rattle.model.specs.Table.{look}
 use Rattle.model.specs.Parts.{Delete}
 use Rattle.model.specs.Outcome.{nothing, instruction, refuse, finish}
-use Rattle.model.specs.Decoder.{
-  Held,
-  heldIndex,
-  deleteIndex,
-  Decoder,
-  slotIn,
-  lookup,
-  deleteOf,
-  isSome,
-  readyDelete,
-  ready,
-  nextFreed,
-  without,
-  freeEntry,
-  collectEntry,
-  FormsDecoder,
-}
+use Rattle.model.specs.Decoder.{Held, heldIndex, deleteIndex, Decoder, slotIn, lookup, deleteOf, isSome, readyDelete, ready, nextFreed, without}
+use Rattle.model.specs.Decoder.{freeEntry, collectEntry, FormsDecoder}
 use Rattle.model.specs.DecoderCalls.{collect, decoderCall}
 use Rattle.model.specs.Ready.{LowestReady}
 use Rattle.model.proofs.Tables.{look-index, lowest-first, lowest-some}

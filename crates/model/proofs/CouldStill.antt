@@ -21,7 +21,8 @@ use Rattle.model.specs.Decoder.{Decoder, lookup, withFinished, giveField
 use Rattle.model.specs.DecoderCalls.{DecoderCall, read, block, ended, collect, hold, unread, decoderCall, afterDecoder}
 use Rattle.model.specs.Ready.{CouldStill, FineCall}
 use Rattle.model.proofs.DecoderWays.{insert-ways, delete-ways, acknowledge-ways, block-ways, end-ways, collect-ways, hold-ways}
-use Rattle.model.proofs.Marks.{part-back, mark-keeps, both-keeps, mark-same, mark-marked, both-marked, marked-late, nontrailer-turn, trailer-turn}
+use Rattle.model.proofs.Marks.{part-back, mark-keeps, both-keeps, mark-same, mark-marked, both-marked, marked-late, nontrailer-turn}
+use Rattle.model.proofs.Marks.{trailer-turn}
 
 -- ---- finished parts stay finished
 

@@ -9,8 +9,8 @@ use lib.ListN.{length}
 use lib.Dec.{ltb, leb, eqb}
 use borrow.Author.Tests.{ltb-true, leb-true}
 use Rattle.memory.proofs.Order.{need-both}
-use Rattle.integers.specs.Answers.{Answer, done, refusal, waits, not-allowed, held}
-use Rattle.integers.specs.Answers.{over-limit, vacant, under-deletion, not-under-deletion, out-of-turn, no-room, full}
+use Rattle.integers.specs.Answers.{Answer, refusal, waits, not-allowed, held, over-limit, vacant, under-deletion, not-under-deletion, out-of-turn}
+use Rattle.integers.specs.Answers.{no-room, full}
 use Rattle.integers.specs.Integer.{largest}
 use Rattle.wire.specs.Name.{Name}
 use Rattle.wire.specs.StreamList.{StreamList}

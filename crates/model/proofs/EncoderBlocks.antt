@@ -1,4 +1,5 @@
 -- A written block is remembered at the slots that it names: horizons grow at slots that are not under deletion, and then name the block's part.
+-- By cases on whether the block mentions a slot.
 use mathlib.Core.Path.{_≡_, refl, sym, ap, _∙_, subst}
 use mathlib.Core.Logic.{_⊎_, inl, inr}
 use Prim.Native.Nat.{ℕ, zero, suc, _≤_, _<_, max}
@@ -6,8 +7,8 @@ use native.Mathlib.Decide.{ℕ-discrete}
 use native.Mathlib.Omega.{arith}
 use mathlib.Core.Bool.{Bool, true, false}
 use mathlib.Core.Option.{Option, none, some, Option·map}
-use mathlib.Core.List.{List, [], _∷_, _++_, map, append-nil, List·Memᴰ, List·Memᴰ·head, List·Memᴰ·tail}
-use mathlib.Core.List.{Memᴰ·append-left, Memᴰ·append-right, List·Memᴰ·append-cases, Memᴰ·cast}
+use mathlib.Core.List.{List, [], _∷_, _++_, map, append-nil, List·Memᴰ, List·Memᴰ·head, List·Memᴰ·tail, Memᴰ·append-left, Memᴰ·append-right}
+use mathlib.Core.List.{List·Memᴰ·append-cases, Memᴰ·cast}
 use lib.Dec.{leb, eqb}
 use borrow.Author.Tests.{lt-leb}
 use Rattle.memory.specs.Choice.{pick}
@@ -22,94 +23,95 @@ use Rattle.model.specs.Parts.{Part, nontrailer, trailer}
 use Rattle.model.specs.Encoder.{Sent, sentIndex, choose, mentions, referred, refer}
 use Rattle.model.proofs.Tables.{nope, pick-eq, pick-yes, look-index, look-map}
 use Rattle.model.proofs.Order.{refer-index}
-use Rattle.model.proofs.SentChanges.{}
-use Rattle.model.proofs.Core.Model.{Stp, below, each, parts, asIdx, asNam}
-use Rattle.model.proofs.Core.Slot.{elive}
-use Rattle.model.proofs.Core.Link.{GItem, glit, gidx, gnam, Refs, refs-map, Grow, Grown, Fresh}
-use Rattle.model.proofs.View.{listsSent, slotSent, slotOfSent, tabE}
-use Rattle.model.proofs.EncoderSlots.{tab-live}
+use Rattle.model.proofs.Slots.Machine.{StreamPart, partsBelow, partsAmong, namedParts, fieldOf, fieldNamed}
+use Rattle.model.proofs.Slots.Messages.{liveSent}
+use Rattle.model.proofs.Slots.Invariant.{MeantItem, meantGiven, meantIndex, meantName, EachReference, references-map}
+use Rattle.model.proofs.Slots.Referring.{Grows, Grown, NewReference}
+use Rattle.model.proofs.View.{listsSent, slotSent, slotOfSent, slotsSent}
+use Rattle.model.proofs.EncoderSlots.{slots-live}
 use Rattle.model.proofs.EncoderItems.{entryOf, meant, meantBy, meantItems, Serving, found-high, meant-served}
 
 -- ---- the parts below a horizon
 
-below-has : (p : Part) (s n : ℕ) → s < n → List·Memᴰ (record { stream = s; part = p }) (below p n)
-unfolding below
+below-has : (p : Part) (s n : ℕ) → s < n → List·Memᴰ (record { stream = s; part = p }) (partsBelow p n)
+unfolding partsBelow
 below-has p s zero h = absurd (omega arith)
 below-has p s (suc n) h = go (ℕ-discrete s n) (λ k. below-has p s n k)
   where
-    go : Dec (s ≡ n) → (s < n → List·Memᴰ (record { stream = s; part = p }) (below p n))
-        → List·Memᴰ (record { stream = s; part = p }) (record { stream = n; part = p } ∷ below p n)
+    go : Dec (s ≡ n) → (s < n → List·Memᴰ (record { stream = s; part = p }) (partsBelow p n))
+        → List·Memᴰ (record { stream = s; part = p }) (record { stream = n; part = p } ∷ partsBelow p n)
     go (yes e) r = List·Memᴰ·head (λ k. record { stream = e k; part = p })
     go (no e) r = List·Memᴰ·tail (r (omega arith))
 
-below-is : (p : Part) (n : ℕ) (q : Stp) → List·Memᴰ q (below p n) → (q .part ≡ p) × (q .stream < n)
-unfolding below
+below-is : (p : Part) (n : ℕ) (q : StreamPart) → List·Memᴰ q (partsBelow p n) → (q .part ≡ p) × (q .stream < n)
+unfolding partsBelow
 below-is p zero q m = elim m [ ]
-below-is p (suc n) q (List·Memᴰ·head e) = (ap (λ (t : Stp). t .part) e, (let z = ap (λ (t : Stp). t .stream) e in omega arith))
+below-is p (suc n) q (List·Memᴰ·head e) = (ap (λ (t : StreamPart). t .part) e, (let z = ap (λ (t : StreamPart). t .stream) e in omega arith))
 below-is p (suc n) q (List·Memᴰ·tail m) = let r = below-is p n q m in (r .0, (let z = r .1 in omega arith))
 
-below-more : (p : Part) (n m : ℕ) (q : Stp) → n ≤ m → List·Memᴰ q (below p n) → List·Memᴰ q (below p m)
+below-more : (p : Part) (n m : ℕ) (q : StreamPart) → n ≤ m → List·Memᴰ q (partsBelow p n) → List·Memᴰ q (partsBelow p m)
 below-more p n m q h k =
     let r = below-is p n q k in
     Memᴰ·cast (λ i. record { stream = q .stream; part = r .0 i }) (below-has p (q .stream) m (let z = r .1 in omega arith))
 
-parts-of : (e : Sent) → parts (listsSent e) ≡ below nontrailer (e .plain) ++ below trailer (e .trailer)
-unfolding parts each
-parts-of e = rw (append-nil (below nontrailer (e .plain)), append-nil (below trailer (e .trailer)))
+parts-of : (e : Sent) → namedParts (listsSent e) ≡ partsBelow nontrailer (e .plain) ++ partsBelow trailer (e .trailer)
+unfolding namedParts partsAmong
+parts-of e = rw (append-nil (partsBelow nontrailer (e .plain)), append-nil (partsBelow trailer (e .trailer)))
 
-more : (d e : Sent) (q : Stp) → d .plain ≤ e .plain → d .trailer ≤ e .trailer → List·Memᴰ q (parts (listsSent d)) → List·Memᴰ q (parts (listsSent e))
-more d e q h k m = rw (parts-of e) (go (List·Memᴰ·append-cases (below nontrailer (d .plain)) (rw (parts-of d) at m)))
+more : (d e : Sent) (q : StreamPart) → d .plain ≤ e .plain → d .trailer ≤ e .trailer → List·Memᴰ q (namedParts (listsSent d))
+    → List·Memᴰ q (namedParts (listsSent e))
+more d e q h k m = rw (parts-of e) (go (List·Memᴰ·append-cases (partsBelow nontrailer (d .plain)) (rw (parts-of d) at m)))
   where
-    go : List·Memᴰ q (below nontrailer (d .plain)) ⊎ List·Memᴰ q (below trailer (d .trailer))
-        → List·Memᴰ q (below nontrailer (e .plain) ++ below trailer (e .trailer))
-    go (inl x) = Memᴰ·append-left (below trailer (e .trailer)) (below-more nontrailer (d .plain) (e .plain) q h x)
-    go (inr x) = Memᴰ·append-right (below nontrailer (e .plain)) (below-more trailer (d .trailer) (e .trailer) q k x)
+    go : List·Memᴰ q (partsBelow nontrailer (d .plain)) ⊎ List·Memᴰ q (partsBelow trailer (d .trailer))
+        → List·Memᴰ q (partsBelow nontrailer (e .plain) ++ partsBelow trailer (e .trailer))
+    go (inl x) = Memᴰ·append-left (partsBelow trailer (e .trailer)) (below-more nontrailer (d .plain) (e .plain) q h x)
+    go (inr x) = Memᴰ·append-right (partsBelow nontrailer (e .plain)) (below-more trailer (d .trailer) (e .trailer) q k x)
 
-referred-has : (s : ℕ) (p : Part) (e : Sent) → List·Memᴰ (record { stream = s; part = p }) (parts (listsSent (referred s p e)))
+referred-has : (s : ℕ) (p : Part) (e : Sent) → List·Memᴰ (record { stream = s; part = p }) (namedParts (listsSent (referred s p e)))
 unfolding referred
 referred-has s nontrailer e =
     rw (parts-of (referred s nontrailer e)) (Memᴰ·append-left _ (below-has nontrailer s (max (e .plain) (suc s)) (omega arith)))
 referred-has s trailer e =
-    rw (parts-of (referred s trailer e)) (Memᴰ·append-right (below nontrailer (e .plain)) (below-has trailer s (max (e .trailer) (suc s)) (omega arith)))
+    rw (parts-of (referred s trailer e)) (Memᴰ·append-right (partsBelow nontrailer (e .plain)) (below-has trailer s (max (e .trailer) (suc s)) (omega arith)))
 
-referred-more : (s : ℕ) (p : Part) (e : Sent) (q : Stp) → List·Memᴰ q (parts (listsSent e)) → List·Memᴰ q (parts (listsSent (referred s p e)))
+referred-more : (s : ℕ) (p : Part) (e : Sent) (q : StreamPart) → List·Memᴰ q (namedParts (listsSent e)) → List·Memᴰ q (namedParts (listsSent (referred s p e)))
 unfolding referred
 referred-more s nontrailer e q m = more e (referred s nontrailer e) q (omega arith) (omega arith) m
 referred-more s trailer e q m = more e (referred s trailer e) q (omega arith) (omega arith) m
 
 -- the slot of an entry that is not under deletion, after a block that names it
-referred-live : (s : ℕ) (p : Part) (e : Sent) → e .deleted ≡ false → slotOfSent (some (referred s p e)) ≡ elive (e .entry) (listsSent (referred s p e))
+referred-live : (s : ℕ) (p : Part) (e : Sent) → e .deleted ≡ false → slotOfSent (some (referred s p e)) ≡ liveSent (e .entry) (listsSent (referred s p e))
 unfolding referred
 referred-live s nontrailer e d = ap (λ (b : Bool). slotSent b (e .entry) (listsSent (referred s nontrailer e))) d
 referred-live s trailer e d = ap (λ (b : Bool). slotSent b (e .entry) (listsSent (referred s trailer e))) d
 
 -- ---- the indexes that a block mentions
 
-refs-tail : (P : ℕ → Entry → Type 0) (x : GItem) (b : List GItem) → Refs P (x ∷ b) → Refs P b
-refs-tail P (glit f) b r = r
-refs-tail P (gidx i c) b r = r .1
-refs-tail P (gnam i c n v) b r = r .1
+refs-tail : (P : ℕ → Entry → Type 0) (x : MeantItem) (b : List MeantItem) → EachReference P (x ∷ b) → EachReference P b
+refs-tail P (meantGiven f) b r = r
+refs-tail P (meantIndex i c) b r = r .1
+refs-tail P (meantName i c n v) b r = r .1
 
 module _ (l : List Sent) (P : ℕ → Entry → Type 0) where
   -- a mentioned dynamic index is one of the references
-  dynamic : (i j : ℕ) → 61 < i → (f : Field) (y : GItem) (c : Entry) (b : List GItem) → (Refs P (y ∷ b) → P j c)
-      → Refs P (pick (leb j 61) (glit f) y ∷ b) → j ≡ i → P i c
+  dynamic : (i j : ℕ) → 61 < i → (f : Field) (y : MeantItem) (c : Entry) (b : List MeantItem) → (EachReference P (y ∷ b) → P j c)
+      → EachReference P (pick (leb j 61) (meantGiven f) y ∷ b) → j ≡ i → P i c
   dynamic i j h f y c b at r e =
       subst (λ (n : ℕ). P n c) e
-      (at (subst (λ (x : GItem). Refs P (x ∷ b)) (pick-false (leb j 61) (glit f) y (lt-leb j 61 (omega arith))) r))
+      (at (subst (λ (x : MeantItem). EachReference P (x ∷ b)) (pick-false (leb j 61) (meantGiven f) y (lt-leb j 61 (omega arith))) r))
 
-  mentioned : (i : ℕ) → 61 < i → (rs : List Representation) → Refs P (meantBy l rs) → mentions (blockReferences rs) i ≡ true → (c : Entry) × P i c
+  mentioned : (i : ℕ) → 61 < i → (rs : List Representation) → EachReference P (meantBy l rs) → mentions (blockReferences rs) i ≡ true → (c : Entry) × P i c
   unfolding blockReferences mentions meantBy meant
   mentioned i h [] r m = nope (cc)
   mentioned i h (indexed j ∷ rs) r m =
       let c : Entry = entryOf (look sentIndex j l) in
       pick-eq (λ (t : Bool). t ≡ true → (c : Entry) × P i c) j i true (mentions (blockReferences rs) i)
-      (λ e k. (c, dynamic i j h (asIdx (entryAt j)) (gidx j c) c (meantBy l rs) (λ u. u .0) r e))
+      (λ e k. (c, dynamic i j h (fieldOf (entryAt j)) (meantIndex j c) c (meantBy l rs) (λ u. u .0) r e))
       (λ e k. mentioned i h rs (refs-tail P (meant l (indexed j)) (meantBy l rs) r) k) m
   mentioned i h (literal flag (by-index j) v ∷ rs) r m =
       let c : Entry = entryOf (look sentIndex j l) in
       pick-eq (λ (t : Bool). t ≡ true → (c : Entry) × P i c) j i true (mentions (blockReferences rs) i)
-      (λ e k. (c, dynamic i j h (asNam flag v (entryAt j)) (gnam j c flag v) c (meantBy l rs) (λ u. u .0) r e))
+      (λ e k. (c, dynamic i j h (fieldNamed flag v (entryAt j)) (meantName j c flag v) c (meantBy l rs) (λ u. u .0) r e))
       (λ e k. mentioned i h rs (refs-tail P (meant l (literal flag (by-index j) v)) (meantBy l rs) r) k) m
   mentioned i h (literal flag (by-bytes n) v ∷ rs) r m = mentioned i h rs r m
 
@@ -120,22 +122,24 @@ module _ (l : List Sent) (P : ℕ → Entry → Type 0) where
   abbrev Behind : ℕ → List Representation → ℕ → Entry → Type 0
   Behind j rs i c = P i c × (pick (eqb j i) true (mentions (blockReferences rs) i) ≡ true)
 
-  behind : (j : ℕ) (rs : List Representation) (b : List GItem) → Refs (Mentioned rs) b → Refs (Behind j rs) b
+  behind : (j : ℕ) (rs : List Representation) (b : List MeantItem) → EachReference (Mentioned rs) b → EachReference (Behind j rs) b
   behind j rs b r =
-      refs-map (Mentioned rs) (Behind j rs) b
+      references-map (Mentioned rs) (Behind j rs) b
       (λ i c h. (h .0, pick-both (λ (t : Bool). t ≡ true) (eqb j i) true (mentions (blockReferences rs) i) (λ e. refl) (λ e. h .1))) r
 
-  mentions-all : (rs : List Representation) → Refs P (meantBy l rs) → Refs (Mentioned rs) (meantBy l rs)
+  mentions-all : (rs : List Representation) → EachReference P (meantBy l rs) → EachReference (Mentioned rs) (meantBy l rs)
   unfolding blockReferences mentions meantBy meant
   mentions-all [] r = tt
   mentions-all (indexed j ∷ rs) r =
-      pick-both (λ (x : GItem). Refs P (x ∷ meantBy l rs) → Refs (Behind j rs) (x ∷ meantBy l rs)) (leb j 61) (glit (asIdx (entryAt j)))
-      (gidx j (entryOf (look sentIndex j l)))
+      pick-both (λ (x : MeantItem). EachReference P (x ∷ meantBy l rs) → EachReference (Behind j rs) (x ∷ meantBy l rs)) (leb j 61)
+      (meantGiven (fieldOf (entryAt j)))
+      (meantIndex j (entryOf (look sentIndex j l)))
       (λ t u. behind j rs (meantBy l rs) (mentions-all rs u))
       (λ t u. ((u .0, pick-yes j j true (mentions (blockReferences rs) j) refl), behind j rs (meantBy l rs) (mentions-all rs (u .1)))) r
   mentions-all (literal flag (by-index j) v ∷ rs) r =
-      pick-both (λ (x : GItem). Refs P (x ∷ meantBy l rs) → Refs (Behind j rs) (x ∷ meantBy l rs)) (leb j 61) (glit (asNam flag v (entryAt j)))
-      (gnam j (entryOf (look sentIndex j l)) flag v)
+      pick-both (λ (x : MeantItem). EachReference P (x ∷ meantBy l rs) → EachReference (Behind j rs) (x ∷ meantBy l rs)) (leb j 61)
+      (meantGiven (fieldNamed flag v (entryAt j)))
+      (meantName j (entryOf (look sentIndex j l)) flag v)
       (λ t u. behind j rs (meantBy l rs) (mentions-all rs u))
       (λ t u. ((u .0, pick-yes j j true (mentions (blockReferences rs) j) refl), behind j rs (meantBy l rs) (mentions-all rs (u .1)))) r
   mentions-all (literal flag (by-bytes n) v ∷ rs) r = mentions-all rs r
@@ -146,8 +150,8 @@ module _ (l : List Sent) (a : Ascending sentIndex 62 l) (s : ℕ) (p : Part) (fs
   abbrev rs : List Representation
   rs = map (choose l) fs
 
-  found-after : (i : ℕ) (o : Option Sent) → look sentIndex i l ≡ o → tabE (map (refer s p rs) l) i ≡ slotOfSent (Option·map (refer s p rs) o)
-  unfolding tabE
+  found-after : (i : ℕ) (o : Option Sent) → look sentIndex i l ≡ o → slotsSent (map (refer s p rs) l) i ≡ slotOfSent (Option·map (refer s p rs) o)
+  unfolding slotsSent
   found-after i o h = ap slotOfSent (look-map sentIndex (refer s p rs) (refer-index s p rs) i l ∙ ap (Option·map (refer s p rs)) h)
 
   -- an entry that the block mentions is not under deletion
@@ -158,34 +162,34 @@ module _ (l : List Sent) (a : Ascending sentIndex 62 l) (s : ℕ) (p : Part) (fs
       let z : w .sent ≡ e = cc in
       ap (λ (x : Sent). x .deleted) (sym z) ∙ w .lives
 
-  pub block-grown : Grown (tabE l) (tabE (map (refer s p rs) l))
-  unfolding tabE refer
+  pub block-grown : Grown (slotsSent l) (slotsSent (map (refer s p rs) l))
+  unfolding slotsSent refer
   block-grown i = rw (found-after i (look sentIndex i l) refl) (go (look sentIndex i l) refl)
     where
       go : (o : Option Sent) → look sentIndex i l ≡ o
-          → (slotOfSent (Option·map (refer s p rs) o) ≡ slotOfSent o) ⊎ Grow (slotOfSent o) (slotOfSent (Option·map (refer s p rs) o))
+          → (slotOfSent (Option·map (refer s p rs) o) ≡ slotOfSent o) ⊎ Grows (slotOfSent o) (slotOfSent (Option·map (refer s p rs) o))
       go none h = inl refl
       go (some e) h =
           let x = look-index sentIndex i l e h in
-          pick-both (λ (t : Sent). (slotOfSent (some t) ≡ slotOfSent (some e)) ⊎ Grow (slotOfSent (some e)) (slotOfSent (some t)))
+          pick-both (λ (t : Sent). (slotOfSent (some t) ≡ slotOfSent (some e)) ⊎ Grows (slotOfSent (some e)) (slotOfSent (some t)))
           (mentions (blockReferences rs) (e .index)) (referred s p e) e
           (λ m. let d = mentioned-live i e h (ap (mentions (blockReferences rs)) (sym x) ∙ m) in
           inr (record {
-            cont = e .entry;
-            old = listsSent e;
-            new = listsSent (referred s p e);
+            entry = e .entry;
+            older = listsSent e;
+            newer = listsSent (referred s p e);
             from-live = ap (λ (b : Bool). slotSent b (e .entry) (listsSent e)) d;
             to-live = referred-live s p e d;
             more = referred-more s p e;
           }))
           (λ m. inl refl)
 
-  pub block-fresh : Refs (Fresh (tabE l) (tabE (map (refer s p rs) l)) (record { stream = s; part = p })) (meantItems l fs)
+  pub block-fresh : EachReference (NewReference (slotsSent l) (slotsSent (map (refer s p rs) l)) (record { stream = s; part = p })) (meantItems l fs)
   unfolding refer
-  block-fresh = refs-map _ _ (meantItems l fs) one (mentions-all l (Serving l) rs (meant-served l a fs))
+  block-fresh = references-map _ _ (meantItems l fs) one (mentions-all l (Serving l) rs (meant-served l a fs))
     where
       one : (i : ℕ) (c : Entry) → Serving l i c × (mentions (blockReferences rs) i ≡ true)
-          → Fresh (tabE l) (tabE (map (refer s p rs) l)) (record { stream = s; part = p }) i c
+          → NewReference (slotsSent l) (slotsSent (map (refer s p rs) l)) (record { stream = s; part = p }) i c
       one i c h =
           let e : Sent = h .0 .sent in
           let x = look-index sentIndex i l e (h .0 .found) in
@@ -194,9 +198,9 @@ module _ (l : List Sent) (a : Ascending sentIndex 62 l) (s : ℕ) (p : Part) (fs
           record {
             lists = listsSent e;
             lists′ = listsSent (referred s p e);
-            before = tab-live l i e (h .0 .found) (h .0 .lives) ∙ ap (λ (t : Entry). elive t (listsSent e)) (h .0 .holds);
+            before = slots-live l i e (h .0 .found) (h .0 .lives) ∙ ap (λ (t : Entry). liveSent t (listsSent e)) (h .0 .holds);
             behind =
                 found-after i (some e) (h .0 .found) ∙ ap (λ (t : Sent). slotOfSent (some t)) w ∙ referred-live s p e (h .0 .lives)
-                ∙ ap (λ (t : Entry). elive t (listsSent (referred s p e))) (h .0 .holds);
+                ∙ ap (λ (t : Entry). liveSent t (listsSent (referred s p e))) (h .0 .holds);
             noted = referred-has s p e;
           }

@@ -3,7 +3,7 @@
 use mathlib.Core.Path.{_≡_, refl, sym, ap, _∙_, subst}
 use Prim.Native.Nat.{ℕ, _≤_, _<_}
 use native.Mathlib.Omega.{arith}
-use mathlib.Core.Bool.{Bool, true, false, not, _&&_}
+use mathlib.Core.Bool.{Bool, true, false, not}
 use mathlib.Core.Option.{Option, none, some}
 use mathlib.Core.List.{List, [], _∷_, map}
 use lib.Dec.{leb, eqb}
@@ -23,9 +23,10 @@ use Rattle.blocks.specs.Representation.{Representation, indexed, literal}
 use Rattle.model.specs.Table.{Ascending, look, lowest}
 use Rattle.model.specs.Encoder.{Sent, sentIndex, serves, servesBoth, dynamicName, staticName, chooseName, dynamicField, staticField, choose}
 use Rattle.model.proofs.Tables.{nope, look-below, lowest-sound}
-use Rattle.model.proofs.Core.Model.{Item, lit, idx, nam, asIdx, asNam}
-use Rattle.model.proofs.Core.Link.{GItem, glit, gidx, gnam, plain, fieldsOf, Refs}
-use Rattle.model.proofs.View.{itemOf, itemsOf}
+use Rattle.model.proofs.Slots.Machine.{Item, given, byIndex, byName, fieldOf, fieldNamed}
+use Rattle.model.proofs.Slots.Invariant.{MeantItem, meantGiven, meantIndex, meantName, asItems, fieldsOf, EachReference}
+use Rattle.model.proofs.View.{slotItem, slotItems}
+use Rattle.model.proofs.Marks.{and-both}
 
 -- ---- a block with the entries that its indexes mean
 
@@ -33,56 +34,53 @@ unfoldable pub entryOf : Option Sent → Entry
 entryOf none = record { name = []; value = [] }
 entryOf (some e) = e .entry
 
-unfoldable pub meant : List Sent → Representation → GItem
+unfoldable pub meant : List Sent → Representation → MeantItem
 unfolding entryOf
-meant l (indexed i) = pick (leb i 61) (glit (asIdx (entryAt i))) (gidx i (entryOf (look sentIndex i l)))
+meant l (indexed i) = pick (leb i 61) (meantGiven (fieldOf (entryAt i))) (meantIndex i (entryOf (look sentIndex i l)))
 meant l (literal flag (by-index i) value) =
-    pick (leb i 61) (glit (asNam flag value (entryAt i))) (gnam i (entryOf (look sentIndex i l)) flag value)
-meant l (literal flag (by-bytes name) value) = glit (record { flag = flag; name = name; value = value })
+    pick (leb i 61) (meantGiven (fieldNamed flag value (entryAt i))) (meantName i (entryOf (look sentIndex i l)) flag value)
+meant l (literal flag (by-bytes name) value) = meantGiven (record { flag = flag; name = name; value = value })
 
-unfoldable pub meantBy : List Sent → List Representation → List GItem
+unfoldable pub meantBy : List Sent → List Representation → List MeantItem
 unfolding meant
 meantBy l [] = []
 meantBy l (r ∷ rs) = meant l r ∷ meantBy l rs
 
-abbrev pub meantItems : List Sent → List Field → List GItem
+abbrev pub meantItems : List Sent → List Field → List MeantItem
 meantItems l fs = meantBy l (map (choose l) fs)
 
 -- without them it is what is written
-plain-pick : (b : Bool) (x y : GItem) (u v : Item) (m : List GItem) → plain (x ∷ m) ≡ u ∷ plain m → plain (y ∷ m) ≡ v ∷ plain m
-    → plain (pick b x y ∷ m) ≡ pick b u v ∷ plain m
+plain-pick : (b : Bool) (x y : MeantItem) (u v : Item) (m : List MeantItem) → asItems (x ∷ m) ≡ u ∷ asItems m → asItems (y ∷ m) ≡ v ∷ asItems m
+    → asItems (pick b x y ∷ m) ≡ pick b u v ∷ asItems m
 plain-pick true x y u v m h k = h
 plain-pick false x y u v m h k = k
 
-pub meant-plain : (l : List Sent) (rs : List Representation) → plain (meantBy l rs) ≡ itemsOf rs
-unfolding meantBy meant plain itemsOf itemOf
+pub meant-plain : (l : List Sent) (rs : List Representation) → asItems (meantBy l rs) ≡ slotItems rs
+unfolding meantBy meant asItems slotItems slotItem
 meant-plain l [] = refl
 meant-plain l (indexed i ∷ rs) =
-    plain-pick (leb i 61) (glit (asIdx (entryAt i))) (gidx i (entryOf (look sentIndex i l))) (lit (asIdx (entryAt i))) (idx i) (meantBy l rs) refl refl
-    ∙ ap (λ (t : List Item). itemOf (indexed i) ∷ t) (meant-plain l rs)
+    plain-pick (leb i 61) (meantGiven (fieldOf (entryAt i))) (meantIndex i (entryOf (look sentIndex i l))) (given (fieldOf (entryAt i))) (byIndex i)
+    (meantBy l rs) refl refl
+    ∙ ap (λ (t : List Item). slotItem (indexed i) ∷ t) (meant-plain l rs)
 meant-plain l (literal flag (by-index i) value ∷ rs) =
-    plain-pick (leb i 61) (glit (asNam flag value (entryAt i))) (gnam i (entryOf (look sentIndex i l)) flag value)
-    (lit (asNam flag value (entryAt i))) (nam i flag value) (meantBy l rs) refl refl
-    ∙ ap (λ (t : List Item). itemOf (literal flag (by-index i) value) ∷ t) (meant-plain l rs)
+    plain-pick (leb i 61) (meantGiven (fieldNamed flag value (entryAt i))) (meantName i (entryOf (look sentIndex i l)) flag value)
+    (given (fieldNamed flag value (entryAt i))) (byName i flag value) (meantBy l rs) refl refl
+    ∙ ap (λ (t : List Item). slotItem (literal flag (by-index i) value) ∷ t) (meant-plain l rs)
 meant-plain l (literal flag (by-bytes name) value ∷ rs) =
-    ap (λ (t : List Item). lit (record { flag = flag; name = name; value = value }) ∷ t) (meant-plain l rs)
+    ap (λ (t : List Item). given (record { flag = flag; name = name; value = value }) ∷ t) (meant-plain l rs)
 
 -- ---- which entry serves: not under deletion, with the name, or with name and value
-
-and-true : (a b : Bool) → (a && b) ≡ true → (a ≡ true) × (b ≡ true)
-and-true true b h = (refl, h)
-and-true false b h = nope (cc)
 
 pub serves-is : (name : List ℕ) (e : Sent) → serves name e ≡ true → (e .entry .name ≡ name) × (e .deleted ≡ false)
 unfolding serves
 serves-is name e h =
-    let r = and-true (not (e .deleted)) (same (e .entry .name) name) h in (same-eq (e .entry .name) name (r .1), not-true (e .deleted) (r .0))
+    let r = and-both (not (e .deleted)) (same (e .entry .name) name) h in (same-eq (e .entry .name) name (r .1), not-true (e .deleted) (r .0))
 
 pub both-is : (name value : List ℕ) (e : Sent) → servesBoth name value e ≡ true
     → (e .entry .name ≡ name) × (e .entry .value ≡ value) × (e .deleted ≡ false)
 unfolding servesBoth
 both-is name value e h =
-    let r = and-true (serves name e) (same (e .entry .value) value) h in
+    let r = and-both (serves name e) (same (e .entry .value) value) h in
     let s = serves-is name e (r .0) in
     (s .0, same-eq (e .entry .value) value (r .1), s .1)
 
@@ -119,21 +117,21 @@ module _ (l : List Sent) (a : Ascending sentIndex 62 l) where
       go Nothing h = dynamic (lowest sentIndex (serves name) l) refl
 
   -- what a representation is worth: it means the field, and an entry that it names is held and not under deletion
-  abbrev Sound : Field → GItem → Type 0
-  Sound f x = (f .flag < 2 → fieldsOf (x ∷ []) ≡ f ∷ []) × Refs (Serving l) (x ∷ [])
+  abbrev Sound : Field → MeantItem → Type 0
+  Sound f x = (f .flag < 2 → fieldsOf (x ∷ []) ≡ f ∷ []) × EachReference (Serving l) (x ∷ [])
 
   module _ (e : Sent) (found : look sentIndex (e .index) l ≡ some e) where
-    pub index-meant : meant l (indexed (e .index)) ≡ gidx (e .index) (e .entry)
+    pub index-meant : meant l (indexed (e .index)) ≡ meantIndex (e .index) (e .entry)
     unfolding meant entryOf
     index-meant =
         pick-false (leb (e .index) 61) _ _ (lt-leb (e .index) 61 (found-high (e .index) e found))
-        ∙ ap (λ (o : Option Sent). gidx (e .index) (entryOf o)) found
+        ∙ ap (λ (o : Option Sent). meantIndex (e .index) (entryOf o)) found
 
-    pub name-meant : (flag : ℕ) (value : List ℕ) → meant l (literal flag (by-index (e .index)) value) ≡ gnam (e .index) (e .entry) flag value
+    pub name-meant : (flag : ℕ) (value : List ℕ) → meant l (literal flag (by-index (e .index)) value) ≡ meantName (e .index) (e .entry) flag value
     unfolding meant entryOf
     name-meant flag value =
         pick-false (leb (e .index) 61) _ _ (lt-leb (e .index) 61 (found-high (e .index) e found))
-        ∙ ap (λ (o : Option Sent). gnam (e .index) (entryOf o) flag value) found
+        ∙ ap (λ (o : Option Sent). meantName (e .index) (entryOf o) flag value) found
 
   module _ (f : Field) where
     name-sound : (flag : ℕ) → (f .flag < 2 → flag ≡ f .flag) → Sound f (meant l (literal flag (chooseName l (f .name)) (f .value)))
@@ -189,16 +187,16 @@ module _ (l : List Sent) (a : Ascending sentIndex 62 l) where
 
 -- ---- whole blocks
 
-cons-fields : (x : GItem) (b : List GItem) (f : Field) → fieldsOf (x ∷ []) ≡ f ∷ [] → fieldsOf (x ∷ b) ≡ f ∷ fieldsOf b
+cons-fields : (x : MeantItem) (b : List MeantItem) (f : Field) → fieldsOf (x ∷ []) ≡ f ∷ [] → fieldsOf (x ∷ b) ≡ f ∷ fieldsOf b
 unfolding fieldsOf
-cons-fields (glit g) b f h = let z : g ≡ f = cc in rw z
-cons-fields (gidx i c) b f h = let z : asIdx c ≡ f = cc in rw z
-cons-fields (gnam i c n v) b f h = let z : asNam n v c ≡ f = cc in rw z
+cons-fields (meantGiven g) b f h = let z : g ≡ f = cc in rw z
+cons-fields (meantIndex i c) b f h = let z : fieldOf c ≡ f = cc in rw z
+cons-fields (meantName i c n v) b f h = let z : fieldNamed n v c ≡ f = cc in rw z
 
-cons-refs : (P : ℕ → Entry → Type 0) (x : GItem) (b : List GItem) → Refs P (x ∷ []) → Refs P b → Refs P (x ∷ b)
-cons-refs P (glit g) b h r = r
-cons-refs P (gidx i c) b h r = (h .0, r)
-cons-refs P (gnam i c n v) b h r = (h .0, r)
+cons-refs : (P : ℕ → Entry → Type 0) (x : MeantItem) (b : List MeantItem) → EachReference P (x ∷ []) → EachReference P b → EachReference P (x ∷ b)
+cons-refs P (meantGiven g) b h r = r
+cons-refs P (meantIndex i c) b h r = (h .0, r)
+cons-refs P (meantName i c n v) b h r = (h .0, r)
 
 module _ (l : List Sent) (a : Ascending sentIndex 62 l) where
   pub meant-fields : (fs : List Field) → AllFine fs → fieldsOf (meantItems l fs) ≡ fs
@@ -208,7 +206,7 @@ module _ (l : List Sent) (a : Ascending sentIndex 62 l) where
       cons-fields (meant l (choose l f)) (meantItems l fs) f (choose-sound l a f .0 (h .0 .flag-bit))
       ∙ ap (λ (t : List Field). f ∷ t) (meant-fields fs (h .1))
 
-  pub meant-served : (fs : List Field) → Refs (Serving l) (meantItems l fs)
+  pub meant-served : (fs : List Field) → EachReference (Serving l) (meantItems l fs)
   unfolding meantBy
   meant-served [] = tt
   meant-served (f ∷ fs) = cons-refs (Serving l) (meant l (choose l f)) (meantItems l fs) (choose-sound l a f .1) (meant-served fs)

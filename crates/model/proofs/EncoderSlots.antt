@@ -1,4 +1,4 @@
--- The encoder's table seen as the core's slots: what each change of the list is to the function of the index, and to the size. By what is
+-- The encoder's table seen as slots: what each change of the list is to the function of the index, and to the size. By what is
 -- found in the list after it.
 use mathlib.Core.Path.{_≡_, refl, sym, ap, _∙_, fun-ext}
 use Prim.Native.Nat.{ℕ, _+_, _-_}
@@ -6,7 +6,7 @@ use native.Mathlib.Decide.{ℕ-discrete}
 use native.Mathlib.Omega.{arith}
 use mathlib.Core.Bool.{Bool, true, false}
 use mathlib.Core.Option.{Option, none, some, Option·map}
-use mathlib.Core.List.{List, [], map}
+use mathlib.Core.List.{List, map}
 use lib.Dec.{eqb}
 use Rattle.memory.specs.Choice.{pick}
 use Rattle.statics.specs.Table.{Entry}
@@ -17,18 +17,18 @@ use Rattle.model.specs.Encoder.{Sent, sentIndex, sentSize, deleteAt, ref
 use Rattle.model.proofs.Tables.{nope, pick-eq, pick-yes, pick-no, look-index, look-put, look-cut, look-map, total-put, total-cut, total-map}
 use Rattle.model.proofs.Order.{delete-index, refer-index}
 use Rattle.model.proofs.SentChanges.{delete-entry, refer-entry}
-use Rattle.model.proofs.Core.Base.{set}
-use Rattle.model.proofs.Core.Base as core
-use Rattle.model.proofs.Core.Model.{Lists}
-use Rattle.model.proofs.Core.Slot.{ESlot, efree, elive, egone}
-use Rattle.model.proofs.View.{listsSent, slotSent, slotOfSent, tabE}
+use Rattle.model.proofs.Slots.Functions.{setAt}
+use Rattle.model.proofs.Slots.Functions as functions
+use Rattle.model.proofs.Slots.Machine.{DeleteLists}
+use Rattle.model.proofs.Slots.Messages.{EncoderSlot, freeSent, liveSent, deletedSent}
+use Rattle.model.proofs.View.{listsSent, slotSent, slotOfSent, slotsSent}
 
--- a choice by two indexes is the core's change of one place
-pub set-eqb {ℓ} : {A : Type ℓ} (k j : ℕ) (a : A) (f : ℕ → A) → pick (eqb k j) a (f j) ≡ set k a f j
-unfolding set
+-- a choice by two indexes is a change of one place
+pub set-eqb {ℓ} : {A : Type ℓ} (k j : ℕ) (a : A) (f : ℕ → A) → pick (eqb k j) a (f j) ≡ setAt k a f j
+unfolding setAt
 set-eqb k j a f =
-    pick-eq (λ t. t ≡ core.pick (ℕ-discrete k j) a (f j)) k j a (f j)
-    (λ e. sym (core.pick-yes (ℕ-discrete k j) a (f j) e)) (λ e. sym (core.pick-no (ℕ-discrete k j) a (f j) e))
+    pick-eq (λ t. t ≡ functions.decided (ℕ-discrete k j) a (f j)) k j a (f j)
+    (λ e. sym (functions.decided-yes (ℕ-discrete k j) a (f j) e)) (λ e. sym (functions.decided-no (ℕ-discrete k j) a (f j) e))
 
 slot-pick : (b : Bool) (x y : Option Sent) → slotOfSent (pick b x y) ≡ pick b (slotOfSent x) (slotOfSent y)
 slot-pick true x y = refl
@@ -36,72 +36,69 @@ slot-pick false x y = refl
 
 -- ---- one slot
 
-pub tab-start : tabE [] ≡ (λ (i : ℕ). efree)
-unfolding tabE look
-tab-start = refl
+pub slots-free : (l : List Sent) (k : ℕ) → look sentIndex k l ≡ none → slotsSent l k ≡ freeSent
+unfolding slotsSent
+slots-free l k h = ap slotOfSent h
 
-pub tab-free : (l : List Sent) (k : ℕ) → look sentIndex k l ≡ none → tabE l k ≡ efree
-unfolding tabE
-tab-free l k h = ap slotOfSent h
-
-pub tab-live : (l : List Sent) (k : ℕ) (e : Sent) → look sentIndex k l ≡ some e → e .deleted ≡ false → tabE l k ≡ elive (e .entry) (listsSent e)
-unfolding tabE
-tab-live l k e h d = ap slotOfSent h ∙ ap (λ (b : Bool). slotSent b (e .entry) (listsSent e)) d
+pub slots-live : (l : List Sent) (k : ℕ) (e : Sent) → look sentIndex k l ≡ some e → e .deleted ≡ false → slotsSent l k ≡ liveSent (e .entry) (listsSent e)
+unfolding slotsSent
+slots-live l k e h d = ap slotOfSent h ∙ ap (λ (b : Bool). slotSent b (e .entry) (listsSent e)) d
 
 -- an entry under deletion that holds c
-pub record Gone (l : List Sent) (k : ℕ) (c : Entry) : Type 0 where
+pub record DeletedEntry (l : List Sent) (k : ℕ) (c : Entry) : Type 0 where
   pub sent : Sent
   pub found : look sentIndex k l ≡ some sent
   pub holds : sent .entry ≡ c
   pub deleted : sent .deleted ≡ true
 
-pub tab-gone : (l : List Sent) (k : ℕ) (c : Entry) (ls : Lists) → tabE l k ≡ egone c ls → Gone l k c
-unfolding tabE
-tab-gone l k c ls h = go (look sentIndex k l) refl h
+pub slots-deleted : (l : List Sent) (k : ℕ) (c : Entry) (ls : DeleteLists) → slotsSent l k ≡ deletedSent c ls → DeletedEntry l k c
+unfolding slotsSent
+slots-deleted l k c ls h = go (look sentIndex k l) refl h
   where
-    by-mark : (e : Sent) → look sentIndex k l ≡ some e → (b : Bool) → e .deleted ≡ b → slotSent b (e .entry) (listsSent e) ≡ egone c ls → Gone l k c
+    by-mark : (e : Sent) → look sentIndex k l ≡ some e → (b : Bool) → e .deleted ≡ b → slotSent b (e .entry) (listsSent e) ≡ deletedSent c ls
+        → DeletedEntry l k c
     by-mark e q true d s = record { sent = e; found = q; holds = cc; deleted = d }
     by-mark e q false d s = nope (cc)
 
-    go : (o : Option Sent) → look sentIndex k l ≡ o → slotOfSent o ≡ egone c ls → Gone l k c
+    go : (o : Option Sent) → look sentIndex k l ≡ o → slotOfSent o ≡ deletedSent c ls → DeletedEntry l k c
     go none q s = nope (cc)
     go (some e) q s = by-mark e q (e .deleted) refl s
 
 -- ---- the changes
 
-pub tab-put : (l : List Sent) (x : Sent) → look sentIndex (x .index) l ≡ none
-    → tabE (put sentIndex x l) ≡ set (x .index) (slotOfSent (some x)) (tabE l)
-unfolding tabE
-tab-put l x h =
+pub slots-put : (l : List Sent) (x : Sent) → look sentIndex (x .index) l ≡ none
+    → slotsSent (put sentIndex x l) ≡ setAt (x .index) (slotOfSent (some x)) (slotsSent l)
+unfolding slotsSent
+slots-put l x h =
     fun-ext (λ j.
     ap slotOfSent (look-put sentIndex j x l h) ∙ slot-pick (eqb (x .index) j) (some x) (look sentIndex j l)
-    ∙ set-eqb (x .index) j (slotOfSent (some x)) (tabE l))
+    ∙ set-eqb (x .index) j (slotOfSent (some x)) (slotsSent l))
 
-pub tab-cut : (l : List Sent) (k lo : ℕ) → Ascending sentIndex lo l → tabE (cut sentIndex k l) ≡ set k efree (tabE l)
-unfolding tabE
-tab-cut l k lo a =
+pub slots-cut : (l : List Sent) (k lo : ℕ) → Ascending sentIndex lo l → slotsSent (cut sentIndex k l) ≡ setAt k freeSent (slotsSent l)
+unfolding slotsSent
+slots-cut l k lo a =
     fun-ext (λ j.
-    ap slotOfSent (look-cut sentIndex k j lo l a) ∙ slot-pick (eqb k j) none (look sentIndex j l) ∙ set-eqb k j efree (tabE l))
+    ap slotOfSent (look-cut sentIndex k j lo l a) ∙ slot-pick (eqb k j) none (look sentIndex j l) ∙ set-eqb k j freeSent (slotsSent l))
 
-pub tab-delete : (l : List Sent) (k : ℕ) (e : Sent) → look sentIndex k l ≡ some e
-    → tabE (map (deleteAt k) l) ≡ set k (egone (e .entry) (listsSent e)) (tabE l)
-unfolding tabE deleteAt
-tab-delete l k e h =
+pub slots-delete : (l : List Sent) (k : ℕ) (e : Sent) → look sentIndex k l ≡ some e
+    → slotsSent (map (deleteAt k) l) ≡ setAt k (deletedSent (e .entry) (listsSent e)) (slotsSent l)
+unfolding slotsSent deleteAt
+slots-delete l k e h =
     fun-ext (λ j.
     ap slotOfSent (look-map sentIndex (deleteAt k) (delete-index k) j l) ∙ go j (look sentIndex j l) refl
-    ∙ set-eqb k j (egone (e .entry) (listsSent e)) (tabE l))
+    ∙ set-eqb k j (deletedSent (e .entry) (listsSent e)) (slotsSent l))
   where
     go : (j : ℕ) (o : Option Sent) → look sentIndex j l ≡ o
-        → slotOfSent (Option·map (deleteAt k) o) ≡ pick (eqb k j) (egone (e .entry) (listsSent e)) (slotOfSent o)
+        → slotOfSent (Option·map (deleteAt k) o) ≡ pick (eqb k j) (deletedSent (e .entry) (listsSent e)) (slotOfSent o)
     go j none m =
-        pick-eq (λ (t : ESlot). efree ≡ t) k j (egone (e .entry) (listsSent e)) efree
+        pick-eq (λ (t : EncoderSlot). freeSent ≡ t) k j (deletedSent (e .entry) (listsSent e)) freeSent
         (λ p. let q = ap (λ (t : ℕ). look sentIndex t l) p in nope (cc)) (λ p. refl)
     go j (some x) m =
         let xi = look-index sentIndex j l x m in
-        pick-eq (λ (t : Sent). slotOfSent (some t) ≡ pick (eqb k j) (egone (e .entry) (listsSent e)) (slotOfSent (some x))) (x .index) k _ _
+        pick-eq (λ (t : Sent). slotOfSent (some t) ≡ pick (eqb k j) (deletedSent (e .entry) (listsSent e)) (slotOfSent (some x))) (x .index) k _ _
         (λ p. let q = ap (λ (t : ℕ). look sentIndex t l) (sym p ∙ xi) in
         let z : x ≡ e = cc in
-        ap (λ (t : Sent). egone (t .entry) (listsSent t)) z ∙ sym (pick-yes k j _ _ (sym p ∙ xi)))
+        ap (λ (t : Sent). deletedSent (t .entry) (listsSent t)) z ∙ sym (pick-yes k j _ _ (sym p ∙ xi)))
         (λ p. sym (pick-no k j _ _ (λ r. p (xi ∙ sym r))))
 
 -- ---- the sizes

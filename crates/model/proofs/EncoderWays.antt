@@ -9,8 +9,8 @@ use lib.ListN.{length}
 use lib.Dec.{ltb, leb, eqb}
 use borrow.Author.Tests.{ltb-true, leb-true, not-true}
 use Rattle.memory.proofs.Order.{need-both}
-use Rattle.integers.specs.Answers.{Answer, refusal, not-allowed, over-limit, vacant}
-use Rattle.integers.specs.Answers.{under-deletion, not-under-deletion, out-of-turn, no-room, too-long, full}
+use Rattle.integers.specs.Answers.{Answer, refusal, not-allowed, over-limit, vacant, under-deletion, not-under-deletion, out-of-turn, no-room}
+use Rattle.integers.specs.Answers.{too-long, full}
 use Rattle.integers.specs.Integer.{largest}
 use Rattle.fields.specs.Form.{Field}
 use Rattle.instructions.specs.Instruction.{Instruction, insert, instructionWire}

@@ -13,11 +13,7 @@ use Rattle.wire.specs.Name.{Name, indexed as by-index, literal as by-bytes}
 use Rattle.wire.specs.StreamList.{StreamList}
 use Rattle.instructions.specs.Instruction.{Instruction, insert, delete, acknowledge}
 use Rattle.blocks.specs.Representation.{Representation, indexed, literal}
-
--- both tests hold
-pub both : (a b : Bool) → a && b ≡ true → (a ≡ true) × (b ≡ true)
-both true b e = (refl, e)
-both false b e = not-both false e refl
+use Rattle.model.proofs.Marks.{and-both}
 
 -- ---- the tests
 abbrev pub sameName : Name → Name → Bool
@@ -61,14 +57,14 @@ same-name (by-bytes xs) (by-bytes ys) e = let p = same-eq xs ys e in cc
 
 same-streams : (l m : StreamList) → sameStreams l m ≡ true → l ≡ m
 same-streams l m e =
-    let h = both (eqb (l .horizon) (m .horizon)) (same (l .streams) (m .streams)) e in
+    let h = and-both (eqb (l .horizon) (m .horizon)) (same (l .streams) (m .streams)) e in
     ap₂ (λ (n : ℕ) (xs : List ℕ). record { horizon = n; streams = xs }) (eqb-true (l .horizon) (m .horizon) (h .0))
     (same-eq (l .streams) (m .streams) (h .1))
 
 pub same-instruction : (x y : Instruction) → sameInstruction x y ≡ true → x ≡ y
 same-instruction (insert i name value) (insert j other text) e =
-    let h = both (eqb i j && sameName name other) (same value text) e in
-    let g = both (eqb i j) (sameName name other) (h .0) in
+    let h = and-both (eqb i j && sameName name other) (same value text) e in
+    let g = and-both (eqb i j) (sameName name other) (h .0) in
     let p = eqb-true i j (g .0) in
     let q = same-name name other (g .1) in
     let r = same-eq value text (h .1) in
@@ -77,8 +73,8 @@ same-instruction (insert i name value) (delete j plain trailer) e = not-both fal
 same-instruction (insert i name value) (acknowledge j) e = not-both false e refl
 same-instruction (delete i plain trailer) (insert j other text) e = not-both false e refl
 same-instruction (delete i plain trailer) (delete j few last) e =
-    let h = both (eqb i j && sameStreams plain few) (sameStreams trailer last) e in
-    let g = both (eqb i j) (sameStreams plain few) (h .0) in
+    let h = and-both (eqb i j && sameStreams plain few) (sameStreams trailer last) e in
+    let g = and-both (eqb i j) (sameStreams plain few) (h .0) in
     let p = eqb-true i j (g .0) in
     let q = same-streams plain few (g .1) in
     let r = same-streams trailer last (h .1) in
@@ -93,8 +89,8 @@ same-representation (indexed i) (indexed j) e = let p = eqb-true i j e in cc
 same-representation (indexed i) (literal bit other text) e = not-both false e refl
 same-representation (literal flag name value) (indexed j) e = not-both false e refl
 same-representation (literal flag name value) (literal bit other text) e =
-    let h = both (eqb flag bit && sameName name other) (same value text) e in
-    let g = both (eqb flag bit) (sameName name other) (h .0) in
+    let h = and-both (eqb flag bit && sameName name other) (same value text) e in
+    let g = and-both (eqb flag bit) (sameName name other) (h .0) in
     let p = eqb-true flag bit (g .0) in
     let q = same-name name other (g .1) in
     let r = same-eq value text (h .1) in
@@ -105,7 +101,7 @@ same-block [] [] e = refl
 same-block [] (q ∷ qs) e = not-both false e refl
 same-block (r ∷ rs) [] e = not-both false e refl
 same-block (r ∷ rs) (q ∷ qs) e =
-    let h = both (sameRepresentation r q) (sameBlock rs qs) e in
+    let h = and-both (sameRepresentation r q) (sameBlock rs qs) e in
     let p = same-representation r q (h .0) in
     let t = same-block rs qs (h .1) in
     cc

@@ -18,26 +18,8 @@ use Rattle.model.specs.Outcome.{fields, startAnswer}
 use Rattle.model.specs.Decoder.{heldIndex}
 use Rattle.model.specs.Encoder.{emptyList}
 use Rattle.model.specs.EncoderCalls as at-encoder
-use Rattle.model.specs.Events.{
-  LinkCall,
-  encoder,
-  read,
-  offer,
-  ended,
-  collect,
-  Event,
-  said,
-  wrote,
-  acknowledged,
-  heard,
-  offered,
-  freed,
-  told,
-  quiet,
-  events,
-  endsAfter,
-  fresh,
-}
+use Rattle.model.specs.Events.{LinkCall, encoder, read, offer, ended, collect, Event, said, wrote, acknowledged, heard, offered, freed, told}
+use Rattle.model.specs.Events.{quiet, events, endsAfter, fresh}
 use Rattle.model.specs.Link.{Rules, FineLinkCalls, Served, LinkClaim}
 use Rattle.model.proofs.Running.{run}
 use Rattle.model.proofs.RulesCheck.{keeps}

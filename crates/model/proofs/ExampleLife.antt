@@ -13,25 +13,8 @@ use Rattle.blocks.specs.Representation.{Representation, indexed}
 use Rattle.model.specs.Outcome.{nothing, fields, startAnswer}
 use Rattle.model.specs.Encoder.{emptyList}
 use Rattle.model.specs.EncoderCalls as at-encoder
-use Rattle.model.specs.Events.{
-  LinkCall,
-  encoder,
-  read,
-  offer,
-  ended,
-  collect,
-  Event,
-  said,
-  wrote,
-  acknowledged,
-  heard,
-  offered,
-  freed,
-  told,
-  quiet,
-  events,
-  fresh,
-}
+use Rattle.model.specs.Events.{LinkCall, encoder, read, offer, ended, collect, Event, said, wrote, acknowledged, heard, offered, freed, told}
+use Rattle.model.specs.Events.{quiet, events, fresh}
 use Rattle.model.specs.Events as link
 use Rattle.model.specs.Link.{Rules, FineLinkCalls, Served, LinkClaim}
 use Rattle.model.proofs.Running.{run}

@@ -17,24 +17,8 @@ use Rattle.blocks.specs.Meaning.{Slot, holds, withStatics}
 use Rattle.model.specs.Table.{look, total}
 use Rattle.model.specs.Parts.{mark, markBoth}
 use Rattle.model.specs.Outcome.{Outcome}
-use Rattle.model.specs.Decoder.{
-  Held,
-  heldIndex,
-  Decoder,
-  heldSize,
-  slotIn,
-  lookup,
-  deleteOf,
-  startDecoder,
-  slotName,
-  nameBytes,
-  isSome,
-  readInstruction,
-  ready,
-  nextFreed,
-  FineHeld,
-  FormsDecoder,
-}
+use Rattle.model.specs.Decoder.{Held, heldIndex, Decoder, heldSize, slotIn, lookup, deleteOf, startDecoder, slotName, nameBytes, isSome}
+use Rattle.model.specs.Decoder.{readInstruction, ready, nextFreed, FineHeld, FormsDecoder}
 use Rattle.model.specs.DecoderCalls.{DecoderCall, read, block, ended, collect, hold, unread, decoderCall, afterDecoder}
 use Rattle.model.specs.Ready.{FineCall, FineCalls}
 use Rattle.model.proofs.Tables.{nope, lowest-sound}

@@ -1,4 +1,5 @@
--- The claims on histories: what each table holds, and the horizons of each entry, by the calls since the start. From the two files on them.
+-- The claims on histories: what each table holds, and the horizons of each entry, by the calls since the start.
+-- From the two files on them.
 use Rattle.model.specs.History.{Histories}
 use Rattle.model.proofs.Held.{decoder-held, encoder-held}
 use Rattle.model.proofs.Horizons.{horizons}

@@ -11,8 +11,8 @@ use borrow.Author.Tests.{le-leb, eqb-true, eq-eqb}
 use Rattle.memory.proofs.Order.{split, either, pick-both, need-true, not-both}
 use Rattle.integers.specs.Integer.{largest}
 use Rattle.model.specs.Table.{look}
-use Rattle.model.specs.Parts.{Part, nontrailer, trailer, Marks, Delete, namesPart, isOpen, openBelow, lowestOpen, streams, isReady}
-use Rattle.model.specs.Outcome.{nothing, refuse, finish}
+use Rattle.model.specs.Parts.{Part, nontrailer, trailer, Marks, Delete, isOpen, openBelow, lowestOpen, streams, isReady}
+use Rattle.model.specs.Outcome.{refuse}
 use Rattle.model.specs.Decoder.{heldIndex, Decoder, deleteOf, isSome, readyDelete, ready, holdOf, enquireHold, FormsDecoder}
 use Rattle.model.specs.DecoderCalls.{hold, decoderCall}
 use Rattle.model.specs.Promises.{HoldTells}

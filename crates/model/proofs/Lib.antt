@@ -1,51 +1,65 @@
-pub mod Answers
-pub mod BlockView
-pub mod CollectView
-pub mod Collecting
-pub mod Core
-pub mod CouldStill
-pub mod DecoderView
-pub mod DecoderWays
+-- The proofs of what the papers say, on abstract data, in the order in which a reader wants them.
+
+-- tables: lists of entries, of deletes and of marks
+pub mod Tables
 pub mod Deletes
-pub mod Demand
-pub mod EncoderBlocks
-pub mod EncoderItems
-pub mod EncoderSlots
-pub mod EncoderView
+pub mod Marks
+-- the decoder and the encoder, case by case
+pub mod DecoderWays
 pub mod EncoderWays
-pub mod Equality
-pub mod ExampleAccident
-pub mod ExampleLife
+pub mod Limits
+pub mod Order
+-- states stay well formed
+pub mod TableChanges
+pub mod SentChanges
 pub mod Forms
 pub mod FormsSent
-pub mod Held
-pub mod Histories
-pub mod Holding
-pub mod Horizons
-pub mod Limits
-pub mod LinkCalls
-pub mod LinkClaim
-pub mod LinkHeld
-pub mod LinkHistory
-pub mod LinkOffers
-pub mod LinkReads
-pub mod LinkRules
-pub mod LinkState
-pub mod LinkSteps
-pub mod LinkWrites
-pub mod Linking
-pub mod Marks
-pub mod Order
-pub mod Promises
-pub mod ReadView
+-- demand 3, before "Hence": what is ready, and what a collect frees
+pub mod CouldStill
+pub mod Collecting
 pub mod Ready
 pub mod ReadyClaim
+-- the link as slots: each index for itself, and the invariant
+pub mod Slots
+-- the tables seen as slots
+pub mod View
+pub mod TableView
+pub mod ReadView
+pub mod BlockView
+pub mod CollectView
+pub mod EncoderSlots
+pub mod EncoderItems
+pub mod EncoderBlocks
+pub mod EncoderNotes
+pub mod EncoderView
+-- demand 3, after "Hence": the link
+pub mod Linking
+pub mod LinkHistory
+pub mod LinkRules
+pub mod LinkState
+pub mod LinkWrites
+pub mod LinkReads
+pub mod LinkOffers
+pub mod LinkHeld
+pub mod LinkCalls
+pub mod LinkClaim
+-- histories: what is held, and horizons, by the calls since the start
+pub mod Held
+pub mod Horizons
+pub mod Histories
+-- promises: what each answer says
+pub mod Answers
+pub mod Saying
+pub mod Holding
+pub mod Promises
+-- the rules for the link as a test, and closed examples
+pub mod Equality
 pub mod RulesCheck
 pub mod RulesSound
 pub mod Running
-pub mod Saying
-pub mod SentChanges
-pub mod TableChanges
-pub mod TableView
-pub mod Tables
-pub mod View
+pub mod AcceptanceCalls
+pub mod Acceptance
+pub mod ExampleLife
+pub mod ExampleAccident
+-- the demand
+pub mod Demand

@@ -1,4 +1,5 @@
--- No call changes a limit: "the limit is fixed at start". By the ways of each call.
+-- No call changes a limit: "the limit is fixed at start".
+-- By the ways of each call.
 use mathlib.Core.Path.{_≡_, refl}
 use Rattle.instructions.specs.Instruction.{insert, delete, acknowledge}
 use Rattle.model.specs.Outcome.{block}

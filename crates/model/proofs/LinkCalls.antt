@@ -1,4 +1,5 @@
--- Every call keeps the invariant of the link, and what it answers is as the demand says: each call's event, by the laws of its end.
+-- Every call keeps the invariant of the link, and what it answers is as the demand says.
+-- Each call's event, by the laws of its end.
 use mathlib.Core.Path.{_≡_, refl, sym, ap, _∙_, subst}
 use Prim.Native.Nat.{ℕ, _≤_}
 use native.Mathlib.Omega.{arith}
@@ -21,45 +22,18 @@ use Rattle.model.specs.Encoder.{Encoder, sentIndex, newSent, deleteAt, d
 use Rattle.model.specs.EncoderCalls.{EncoderCall, encoderCall}
 use Rattle.model.specs.EncoderCalls as at-encoder
 use Rattle.model.specs.Ready.{FineCall}
-use Rattle.model.specs.Events.{
-  LinkCall,
-  encoder,
-  read,
-  offer,
-  ended,
-  collect,
-  hold,
-  unread,
-  Event,
-  said,
-  wrote,
-  acknowledged,
-  heard,
-  offered,
-  freed,
-  told,
-  quiet,
-  Ends,
-  Turn,
-  atDecoder,
-  turn,
-  saidBy,
-  wroteBy,
-  encoderEvent,
-  freedBy,
-  toldBy,
-}
+use Rattle.model.specs.Events.{LinkCall, encoder, read, offer, ended, collect, hold, unread, Event, said, wrote, acknowledged, heard, offered}
+use Rattle.model.specs.Events.{freed, told, quiet, Ends, Turn, atDecoder, turn, saidBy, wroteBy, encoderEvent, freedBy, toldBy}
 use Rattle.model.specs.Events as link
-use Rattle.model.specs.Link.{at, heardIn, Written, writtenIn, heldFrom, heldAfter}
-use Rattle.model.specs.Link.{Rules, ServedBlock, FineLinkCall}
+use Rattle.model.specs.Link.{at, heardIn, Written, writtenIn, heldFrom, heldAfter, Rules, ServedBlock, FineLinkCall}
 use Rattle.model.proofs.Tables.{asc-weak}
-use Rattle.model.proofs.DecoderWays as decoder
 use Rattle.model.proofs.EncoderWays as ways
 use Rattle.model.proofs.Forms.{forms-call}
 use Rattle.model.proofs.FormsSent.{sent-call}
 use Rattle.model.proofs.Saying.{said-fine}
-use Rattle.model.proofs.View.{viewD, listsSent}
-use Rattle.model.proofs.EncoderView.{noteOf, note-wire, delete-wire, insert-step, delete-step}
+use Rattle.model.proofs.View.{tablesOf, listsSent}
+use Rattle.model.proofs.EncoderNotes.{noteOf, note-wire, delete-wire}
+use Rattle.model.proofs.EncoderView.{insert-kept, delete-kept}
 use Rattle.model.proofs.Limits.{encoder-limit, decoder-limit}
 use Rattle.model.proofs.LinkHeld.{turn-holds}
 use Rattle.model.proofs.Linking.{held-append}
@@ -68,7 +42,7 @@ use Rattle.model.proofs.LinkHistory.{Calm}
 use Rattle.model.proofs.LinkWrites.{Tied, Still, now, quiet-tied, said-tied, wrote-tied, acknowledged-tied}
 use Rattle.model.proofs.LinkReads.{heard-tied, ended-tied, collect-tied}
 use Rattle.model.proofs.LinkOffers.{served, offered-tied}
-use Rattle.model.proofs.Core.Slot.{ndel}
+use Rattle.model.proofs.Slots.Messages.{noteDelete}
 
 -- what is to be shown of an event, from those before it
 abbrev pub Holds : List Event → Event → Type 0
@@ -131,7 +105,7 @@ module _ (es : List Event) (R : Rules es) (xs ys : List Event) (S : Ends) (K : L
   Sayable o = (i : Instruction) → o .output ≡ instruction i → Manages i × Fine i
 
   inserted : (name value : List ℕ) (room : ℕ) → Said (encoderCall E (at-encoder.insert name value room))
-  unfolding encoderCall saidBy linkOf viewD
+  unfolding encoderCall saidBy linkOf tablesOf
   inserted name value room =
       ways.insert-ways (λ o. Sayable o → Said o) E (λ a e g. (tt, quiet-tied xs E D (K .tied) quiet tt tt)) name value room
       (λ i e f g h k m sayable.
@@ -139,7 +113,7 @@ module _ (es : List Event) (R : Rules es) (xs ys : List Event) (S : Ends) (K : L
         tt,
         said-tied xs E D (K .tied) (ways.insertOf E i name value) (put sentIndex (newSent i name value) (E .entries)) (noteOf (E .entries) i name value)
             (note-wire (E .entries) (K .encoder-forms .order) i name value) (sayable _ refl)
-            (insert-step E (K .encoder-forms) (now xs E D (K .tied)) refl refl l i e name value h),
+            (insert-kept E (K .encoder-forms) (now xs E D (K .tied)) refl refl l i e name value h (K .tied .invariant)),
       ))
       (said-fine E (at-encoder.insert name value room) (K .encoder-forms))
 
@@ -149,8 +123,8 @@ module _ (es : List Event) (R : Rules es) (xs ys : List Event) (S : Ends) (K : L
       ways.delete-ways (λ o. Sayable o → Said o) E (λ a e g. (tt, quiet-tied xs E D (K .tied) quiet tt tt)) i room
       (λ x e f g sayable. (
         tt,
-        said-tied xs E D (K .tied) (deleteOfSent x) (map (deleteAt (x .index)) (E .entries)) (ndel (x .index) (listsSent x))
-            (delete-wire x) (sayable _ refl) (delete-step E (K .encoder-forms) (now xs E D (K .tied)) refl refl i x e f),
+        said-tied xs E D (K .tied) (deleteOfSent x) (map (deleteAt (x .index)) (E .entries)) (noteDelete (x .index) (listsSent x))
+            (delete-wire x) (sayable _ refl) (delete-kept E (K .encoder-forms) (now xs E D (K .tied)) refl refl i x e f (K .tied .invariant)),
       ))
       (said-fine E (at-encoder.delete i room) (K .encoder-forms))
 
@@ -192,7 +166,7 @@ module _ (es : List Event) (R : Rules es) (xs ys : List Event) (S : Ends) (K : L
       let M = K .tied .meant n w (U .1) in
       subst (λ (l : List Representation). Offered n room s part l) (U .4)
       (subst (λ (k : ℕ). Offered n room s k (w .says)) (M .part ∙ U .3)
-      (subst (λ (k : ℕ). Offered n room k (partNumber (M .blk .at .part)) (w .says)) (M .stream ∙ U .2)
+      (subst (λ (k : ℕ). Offered n room k (partNumber (M .blk .place .part)) (w .says)) (M .stream ∙ U .2)
       (λ q. (
         served-only xs n w (U .1) _ _ (served es R xs ys E D (K .tied) (K .vacancies) n w (U .1) M room (U .5) q),
         offered-tied es R xs ys E D (K .tied) (K .vacancies) n w (U .1) M room (U .5),

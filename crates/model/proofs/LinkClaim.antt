@@ -9,17 +9,16 @@ use Rattle.model.specs.Table.{look, total}
 use Rattle.model.specs.Decoder.{heldSize, startDecoder}
 use Rattle.model.specs.Encoder.{sentSize, startEncoder}
 use Rattle.model.specs.Events.{LinkCall, Event, acknowledged, heard, offered, Ends, turn, events, fresh}
-use Rattle.model.specs.Link.{at, saidIn, heardIn, freedIn, acknowledgedIn, Written, writtenFrom, heldFrom}
-use Rattle.model.specs.Link.{Rules, FineLinkCalls, LinkClaim}
+use Rattle.model.specs.Link.{at, saidIn, heardIn, freedIn, acknowledgedIn, Written, writtenFrom, heldFrom, Rules, FineLinkCalls, LinkClaim}
 use Rattle.model.proofs.Tables.{nope}
 use Rattle.model.proofs.Forms.{forms-start}
 use Rattle.model.proofs.FormsSent.{sent-start}
-use Rattle.model.proofs.View.{viewD, tabOf, tabE}
+use Rattle.model.proofs.View.{tablesOf, slotsOf, slotsSent}
 use Rattle.model.proofs.LinkHeld.{empty}
 use Rattle.model.proofs.LinkHistory.{start}
 use Rattle.model.proofs.LinkState.{linkOf, Meant, management-start, acknowledgements-start}
-use Rattle.model.proofs.Core.Link.{Inv}
-use Rattle.model.proofs.Core.Whole as core
+use Rattle.model.proofs.Slots.Invariant.{Invariant}
+use Rattle.model.proofs.Slots.Invariant as slots
 use Rattle.model.proofs.LinkCalls.{Holds, Linked, kept, linked-next}
 use Rattle.model.proofs.Limits.{start-low}
 
@@ -27,9 +26,9 @@ none-written : (n : ℕ) (w : Written) → at n [] ≡ some w → Meant w []
 unfolding at
 none-written n w h = nope (cc)
 
-start-inv : (encoderLimit decoderLimit : ℕ) → Inv (linkOf (startEncoder encoderLimit) (startDecoder decoderLimit) 0 [] [] [])
-unfolding startEncoder startDecoder linkOf viewD tabOf tabE heldSize sentSize look total core.fresh
-start-inv encoderLimit decoderLimit = core.start decoderLimit .inv
+start-inv : (encoderLimit decoderLimit : ℕ) → Invariant (linkOf (startEncoder encoderLimit) (startDecoder decoderLimit) 0 [] [] [])
+unfolding startEncoder startDecoder linkOf tablesOf slotsOf slotsSent heldSize sentSize look total slots.fresh
+start-inv encoderLimit decoderLimit = slots.start decoderLimit
 
 -- ---- lists of calls
 linked-start : (encoderLimit decoderLimit : ℕ) → encoderLimit ≤ decoderLimit → decoderLimit ≤ 4096 → Linked [] (fresh encoderLimit decoderLimit)
@@ -41,13 +40,13 @@ linked-start m n h k = record {
   vacancies = λ i. refl;
   tied = record {
     history = start;
-    mq = [];
-    aq = [];
-    bs = [];
+    unread = [];
+    unreadAcks = [];
+    blocks = [];
     management = management-start;
     acknowledgements = acknowledgements-start;
     meant = λ i w z. none-written i w z;
-    inv = start-inv m n;
+    invariant = start-inv m n;
   };
 }
 

@@ -19,35 +19,8 @@ use Rattle.model.specs.EncoderCalls.{EncoderCall, encoderCall}
 use Rattle.model.specs.EncoderCalls as at-encoder
 use Rattle.model.specs.DecoderCalls as at-decoder
 use Rattle.model.specs.DecoderCalls.{decoderCall}
-use Rattle.model.specs.Events.{
-  LinkCall,
-  encoder,
-  read,
-  offer,
-  ended,
-  collect,
-  hold,
-  unread,
-  Event,
-  said,
-  wrote,
-  acknowledged,
-  heard,
-  offered,
-  freed,
-  told,
-  quiet,
-  Ends,
-  turn,
-  events,
-  endsAfter,
-  fresh,
-  saidBy,
-  wroteBy,
-  encoderEvent,
-  freedBy,
-  toldBy,
-}
+use Rattle.model.specs.Events.{LinkCall, encoder, read, offer, ended, collect, hold, unread, Event, said, wrote, acknowledged, heard, offered}
+use Rattle.model.specs.Events.{freed, told, quiet, Ends, turn, events, endsAfter, fresh, saidBy, wroteBy, encoderEvent, freedBy, toldBy}
 use Rattle.model.specs.Events as link
 use Rattle.model.specs.Link.{heldBy, heldFrom, heldAfter}
 use Rattle.model.proofs.Tables.{pick-eq, look-put, look-cut}

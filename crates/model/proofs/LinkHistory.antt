@@ -1,64 +1,23 @@
 -- What the finished parts come from, and that no part was written twice: a history that each event of the link keeps.
+-- By what each event adds to the lists of blocks, of answers and of ended streams.
 use mathlib.Core.Path.{_≡_, refl, sym, ap, _∙_, subst}
 use mathlib.Core.Logic.{_⊎_, inl, inr}
 use Prim.Native.Nat.{ℕ, _<_}
-use native.Mathlib.Omega.{arith}
-use mathlib.Core.Bool.{Bool, true, false, _||_}
-use mathlib.Core.Option.{Option, none, some}
+use mathlib.Core.Bool.{true, false}
+use mathlib.Core.Option.{some}
 use mathlib.Core.List.{List, [], _∷_, _++_, append-nil, List·Memᴰ, List·Memᴰ·head, Memᴰ·append-left, Memᴰ·append-right}
 use lib.ListN.{length}
-use lib.Dec.{eqb}
-use Rattle.memory.specs.Choice.{pick}
 use Rattle.integers.specs.Answers.{Answer}
 use Rattle.fields.specs.Form.{Field}
 use Rattle.blocks.specs.Representation.{Representation}
-use Rattle.model.specs.Parts.{Part, nontrailer, trailer, partOf, partNumber, samePart, Marks, noMarks, mark, markBoth, streams}
+use Rattle.model.specs.Parts.{Part, partNumber, Marks, noMarks, mark, markBoth, streams}
 use Rattle.model.specs.Outcome.{Output}
 use Rattle.model.specs.Events.{Event, said, wrote, acknowledged, heard, offered, freed, told, quiet}
 use Rattle.model.specs.Events as link
 use Rattle.model.specs.Link.{at, saidIn, Written, writtenFrom, writtenIn, Accepted}
-use Rattle.model.proofs.Tables.{nope, pick-eq}
+use Rattle.model.proofs.Tables.{nope}
 use Rattle.model.proofs.Linking.{at-left, at-last, written-append, accepted-more, Accepts, accepted-last, place}
-use Rattle.model.proofs.Marks.{mark-keeps, mark-marked, both-keeps}
-
--- ---- part numbers
-pub part-number : (n : ℕ) (p : Part) → partOf n ≡ some p → n ≡ partNumber p
-unfolding partOf
-part-number n p h =
-    pick-eq (λ (o : Option Part). o ≡ some p → n ≡ partNumber p) n 0 (some nontrailer) (pick (eqb n 1) (some trailer) none)
-    (λ e k. let z : nontrailer ≡ p = cc in e ∙ ap partNumber z)
-    (λ d. pick-eq (λ (o : Option Part). o ≡ some p → n ≡ partNumber p) n 1 (some trailer) none
-    (λ e k. let z : trailer ≡ p = cc in e ∙ ap partNumber z) (λ e k. nope (cc))) h
-
-pub number-same : (p q : Part) → partNumber p ≡ partNumber q → p ≡ q
-number-same nontrailer nontrailer h = refl
-number-same nontrailer trailer h = absurd (omega (arith, h))
-number-same trailer nontrailer h = absurd (omega (arith, h))
-number-same trailer trailer h = refl
-
--- ---- marks
-same-part : (p q : Part) → samePart p q ≡ true → p ≡ q
-same-part nontrailer nontrailer h = refl
-same-part nontrailer trailer h = nope (cc)
-same-part trailer nontrailer h = nope (cc)
-same-part trailer trailer h = refl
-
-or-either : (a b : Bool) → (a || b) ≡ true → (a ≡ true) ⊎ (b ≡ true)
-or-either true b h = inl refl
-or-either false b h = inr h
-
-pub mark-from : (s : ℕ) (p : Part) (f : Marks) (t : ℕ) (q : Part) → mark s p f t q ≡ true → (f t q ≡ true) ⊎ ((s ≡ t) × (p ≡ q))
-unfolding mark
-mark-from s p f t q h =
-    pick-eq (λ (b : Bool). b ≡ true → (f t q ≡ true) ⊎ ((s ≡ t) × (p ≡ q))) s t _ _ (λ e k. go e (or-either (samePart p q) (f t q) k)) (λ e k. inl k) h
-  where
-    go : s ≡ t → (samePart p q ≡ true) ⊎ (f t q ≡ true) → (f t q ≡ true) ⊎ ((s ≡ t) × (p ≡ q))
-    go e (inl k) = inr (e, same-part p q k)
-    go e (inr k) = inl k
-
-pub both-from : (s : ℕ) (f : Marks) (t : ℕ) (q : Part) → markBoth s f t q ≡ true → (f t q ≡ true) ⊎ (s ≡ t)
-unfolding markBoth
-both-from s f t q h = pick-eq (λ (b : Bool). b ≡ true → (f t q ≡ true) ⊎ (s ≡ t)) s t _ _ (λ e k. inr e) (λ e k. inl k) h
+use Rattle.model.proofs.Marks.{mark-keeps, mark-marked, both-keeps, number-same, mark-from, both-from}
 
 -- ---- the history
 pub record Cause (xs : List Event) (s : ℕ) (p : Part) : Type 0 where

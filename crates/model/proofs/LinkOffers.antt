@@ -1,5 +1,5 @@
--- A block offered under the rules: its answer is as the demand says, and the invariant of the link is kept. The four conclusions of the core
--- for one block, read as answers of the decoder.
+-- A block offered under the rules: its answer is as the demand says, and the invariant of the link is kept. The four conclusions for
+-- one block, of the slots that it names, read as answers of the decoder.
 use mathlib.Core.Path.{_≡_, refl, sym, ap, _∙_, subst}
 use mathlib.Core.Logic.{_⊎_, inl, inr}
 use Prim.Native.Nat.{ℕ, _≤_, _<_}
@@ -20,20 +20,20 @@ use Rattle.model.specs.Encoder.{Encoder}
 use Rattle.model.specs.Events.{Event, offered}
 use Rattle.model.specs.Link.{at, saidIn, heardIn, Written, writtenIn, heldAfter, Rules, ServedBlock}
 use Rattle.model.proofs.DecoderWays as decoder
-use Rattle.model.proofs.LinkHistory.{accept-history, part-number, number-same}
+use Rattle.model.proofs.LinkHistory.{accept-history}
+use Rattle.model.proofs.Marks.{part-number, number-same, part-back, mark-keeps}
 use Rattle.model.proofs.LinkRules.{unfinished, turned}
-use Rattle.model.proofs.Marks.{part-back, mark-keeps}
 use Rattle.model.proofs.LinkState.{linkOf, Meant, management-above}
 use Rattle.model.proofs.LinkWrites.{Tied, now, still-tied, quiet-tied}
-use Rattle.model.proofs.View.{viewD, tabOf}
-use Rattle.model.proofs.DecoderView.{vacant-there, vacant-back}
+use Rattle.model.proofs.View.{tablesOf, slotsOf}
+use Rattle.model.proofs.TableView.{vacant-there, vacant-back}
 use Rattle.model.proofs.BlockView.{BlockAgrees, block-agrees, refers-items, refers-back}
-use Rattle.model.proofs.Core.Model.{Ans, done, wait, bad, Item}
-use Rattle.model.proofs.Core.Model as core
-use Rattle.model.proofs.Core.Ready as ready
-use Rattle.model.proofs.Core.Link.{plain, fieldsOf, Blk, withDec, finD, fin-inv}
-use Rattle.model.proofs.Core.Blocks.{fine}
-use Rattle.model.proofs.Core.Blocks as blocks
+use Rattle.model.proofs.Slots.Machine.{BlockAnswer, gives, waitsFor, outOfTurn, Item}
+use Rattle.model.proofs.Slots.Machine as machine
+use Rattle.model.proofs.Slots.Invariant.{asItems, fieldsOf, WrittenBlock}
+use Rattle.model.proofs.Slots.Freeing.{withDecoder, withMarks, marks-invariant}
+use Rattle.model.proofs.Slots.Serving.{block-conclusions}
+use Rattle.model.proofs.Slots.Serving as serving
 
 -- what a block does to the decoder
 pub data Decoded (D : Decoder) (s : ℕ) (p : Part) (o : Outcome Decoder) : Type 0 where
@@ -49,72 +49,72 @@ decoded D s p rs room =
 
 module _ (es : List Event) (R : Rules es) (xs ys : List Event) (E : Encoder) (D : Decoder) (T : Tied xs E D)
     (vacancies : (i : ℕ) → heldAfter xs i ≡ isSome (look heldIndex i (D .entries))) (n : ℕ) (w : Written) (found : at n (writtenIn xs) ≡ some w)
-    (M : Meant w (T .bs)) (room : ℕ) (enough : length (listForm (w .fields)) ≤ room) where
-  abbrev b : Blk
+    (M : Meant w (T .blocks)) (room : ℕ) (enough : length (listForm (w .fields)) ≤ room) where
+  abbrev b : WrittenBlock
   b = M .blk
 
   abbrev o : Outcome Decoder
-  o = decodeBlock D (b .at .stream) (partNumber (b .at .part)) (w .says) room
+  o = decodeBlock D (b .place .stream) (partNumber (b .place .part)) (w .says) room
 
-  module _ (e : es ≡ xs ++ (offered n (b .at .stream) (partNumber (b .at .part)) (w .says) room (o .answer) (o .output) ∷ ys)) where
-    open-part : D .finished (b .at .stream) (b .at .part) ≡ false
+  module _ (e : es ≡ xs ++ (offered n (b .place .stream) (partNumber (b .place .part)) (w .says) room (o .answer) (o .output) ∷ ys)) where
+    open-part : D .finished (b .place .stream) (b .place .part) ≡ false
     open-part =
-        unfinished es R xs ys n (b .at .stream) (b .at .part) (w .says) room (o .answer) (o .output) e w found (sym (M .stream)) (sym (M .part))
+        unfinished es R xs ys n (b .place .stream) (b .place .part) (w .says) room (o .answer) (o .output) e w found (sym (M .stream)) (sym (M .part))
         (D .finished) (E .written) (T .history)
 
-    conclusions : blocks.Fine (now xs E D T) b
-    unfolding linkOf viewD
+    conclusions : serving.Conclusions (now xs E D T) b
+    unfolding linkOf tablesOf
     conclusions =
-        fine (now xs E D T) (T .inv) b (M .there) open-part
-        (turned es R xs ys n (b .at .stream) (w .says) room (o .answer) (o .output) (D .finished) (E .written) (T .history) (b .at .part) e open-part)
+        block-conclusions (now xs E D T) (T .invariant) b (M .there) open-part
+        (turned es R xs ys n (b .place .stream) (w .says) room (o .answer) (o .output) (D .finished) (E .written) (T .history) (b .place .part) e open-part)
 
-    low : b .at .stream < streams
+    low : b .place .stream < streams
     low = rw (M .stream) (T .history .marked n w found .low)
 
-    agrees : BlockAgrees o (core.offer (viewD D) (b .at .stream) (b .at .part) (plain (b .items)))
+    agrees : BlockAgrees o (machine.offer (tablesOf D) (b .place .stream) (b .place .part) (asItems (b .items)))
     unfolding linkOf
     agrees =
         rw (M .says)
-        (block-agrees D (b .at .stream) (partNumber (b .at .part)) (b .at .part) (w .says) room (part-back (b .at .part)) low
+        (block-agrees D (b .place .stream) (partNumber (b .place .part)) (b .place .part) (w .says) room (part-back (b .place .part)) low
         (λ fs h.
-        let g = conclusions .right fs (ap (λ (l : List Item). (core.offer (viewD D) (b .at .stream) (b .at .part) l) .ans) (M .says) ∙ h) in
+        let g = conclusions .right fs (ap (machine.offer (tablesOf D) (b .place .stream) (b .place .part)) (M .says) ∙ h) in
         rw (g ∙ M .gives) enough))
 
-    abbrev answer : Ans
-    answer = (core.offer (viewD D) (b .at .stream) (b .at .part) (plain (b .items))) .ans
+    abbrev answer : BlockAnswer
+    answer = machine.offer (tablesOf D) (b .place .stream) (b .place .part) (asItems (b .items))
 
-    -- by the core's answer
-    no-fault : (a : Ans) → answer ≡ a → (o .answer .number ≡ 0) ⊎ (o .answer .number ≡ 1)
+    -- by the answer of the tables as functions
+    no-fault : (a : BlockAnswer) → answer ≡ a → (o .answer .number ≡ 0) ⊎ (o .answer .number ≡ 1)
     unfolding linkOf
-    no-fault (done fs) h = inl (agrees .done fs h .0)
-    no-fault (wait i) h = inr (agrees .wait i h)
-    no-fault (bad k) h = absurd (conclusions .no-fault k h)
+    no-fault (gives fs) h = inl (agrees .done fs h .0)
+    no-fault (waitsFor i) h = inr (agrees .wait i h)
+    no-fault outOfTurn h = absurd (conclusions .no-fault h)
 
-    right : (a : Ans) → answer ≡ a → o .answer .number ≡ 0 → o .output ≡ fields (w .fields)
+    right : (a : BlockAnswer) → answer ≡ a → o .answer .number ≡ 0 → o .output ≡ fields (w .fields)
     unfolding linkOf
-    right (done fs) h z = agrees .done fs h .1 ∙ ap fields (conclusions .right fs h ∙ M .gives)
-    right (wait i) h z = let y = agrees .wait i h in absurd (omega (arith, y, z))
-    right (bad k) h z = absurd (conclusions .no-fault k h)
+    right (gives fs) h z = agrees .done fs h .1 ∙ ap fields (conclusions .right fs h ∙ M .gives)
+    right (waitsFor i) h z = let y = agrees .wait i h in absurd (omega (arith, y, z))
+    right outOfTurn h z = absurd (conclusions .no-fault h)
 
     abbrev Empty : Type 0
     Empty = (i : ℕ) × (61 < i) × Refers (w .says) i × (heldAfter xs i ≡ false)
 
-    waits-then : (a : Ans) → answer ≡ a → o .answer .number ≡ 1 → Empty
-    unfolding linkOf viewD
-    waits-then (done fs) h z = let y = agrees .done fs h .0 in absurd (omega (arith, y, z))
-    waits-then (wait i) h z =
-        let x = conclusions .waits .0 (record { slot = i; eq = h }) in
-        let r = refers-back (w .says) (x .0) (subst (λ (l : List Item). ready.Refers (x .0) l) (M .says) (x .1 .refers)) in
+    waits-then : (a : BlockAnswer) → answer ≡ a → o .answer .number ≡ 1 → Empty
+    unfolding linkOf tablesOf
+    waits-then (gives fs) h z = let y = agrees .done fs h .0 in absurd (omega (arith, y, z))
+    waits-then (waitsFor i) h z =
+        let x = conclusions .waits .0 (record { slot = i; equal = h }) in
+        let r = refers-back (w .says) (x .0) (subst (λ (l : List Item). machine.NamesSlot (x .0) l) (M .says) (x .1 .refers)) in
         (x .0, r .0, r .1, vacancies (x .0) ∙ vacant-back D (x .0) (x .1 .empty))
-    waits-then (bad k) h z = absurd (conclusions .no-fault k h)
+    waits-then outOfTurn h z = absurd (conclusions .no-fault h)
 
     waits-if : Empty → o .answer .number ≡ 1
-    unfolding linkOf viewD
+    unfolding linkOf tablesOf
     waits-if x =
-        let r = subst (λ (l : List Item). ready.Refers (x .0) l) (sym (M .says)) (refers-items (w .says) (x .0) (x .2) (x .1)) in
+        let r = subst (λ (l : List Item). machine.NamesSlot (x .0) l) (sym (M .says)) (refers-items (w .says) (x .0) (x .2) (x .1)) in
         let v = vacant-there D (x .0) (sym (vacancies (x .0)) ∙ x .3) in
         let y = conclusions .waits .1 (x .0, record { refers = r; empty = v }) in
-        agrees .wait (y .slot) (y .eq)
+        agrees .wait (y .slot) (y .equal)
 
     pub served : ServedBlock xs w (o .answer) (o .output)
     unfolding linkOf
@@ -123,24 +123,26 @@ module _ (es : List Event) (R : Rules es) (xs ys : List Event) (E : Encoder) (D 
       right = right answer refl;
       waits = (waits-then answer refl, waits-if);
       prompt = λ h.
-          let a = management-above (saidIn xs) (heardIn xs) (T .mq) (b .stamp) (rw (M .stamp) h) (T .management) in
+          let a = management-above (saidIn xs) (heardIn xs) (T .unread) (b .before) (rw (M .before) h) (T .management) in
           agrees .done (fieldsOf (b .items)) (conclusions .prompt a) .0;
     }
 
   -- the invariant after it
-  pub offered-tied : Tied (xs ++ (offered n (b .at .stream) (partNumber (b .at .part)) (w .says) room (o .answer) (o .output) ∷ [])) E (o .state)
-  unfolding linkOf viewD tabOf withDec finD
-  offered-tied = go (decoded D (b .at .stream) (b .at .part) (w .says) room)
+  pub offered-tied : Tied (xs ++ (offered n (b .place .stream) (partNumber (b .place .part)) (w .says) room (o .answer) (o .output) ∷ [])) E (o .state)
+  unfolding linkOf tablesOf slotsOf withDecoder withMarks
+  offered-tied = go (decoded D (b .place .stream) (b .place .part) (w .says) room)
     where
-      go : Decoded D (b .at .stream) (b .at .part) o
-          → Tied (xs ++ (offered n (b .at .stream) (partNumber (b .at .part)) (w .says) room (o .answer) (o .output) ∷ [])) E (o .state)
+      go : Decoded D (b .place .stream) (b .place .part) o
+          → Tied (xs ++ (offered n (b .place .stream) (partNumber (b .place .part)) (w .says) room (o .answer) (o .output) ∷ [])) E (o .state)
       go (accepted z s) =
-          subst (λ (D′ : Decoder). Tied (xs ++ (offered n (b .at .stream) (partNumber (b .at .part)) (w .says) room (o .answer) (o .output) ∷ [])) E D′) (sym s)
-          (still-tied xs E D T _ tt (withFinished D (mark (b .at .stream) (b .at .part) (D .finished)))
-          (accept-history xs n (b .at .stream) (b .at .part) (partNumber (b .at .part)) (w .says) room (o .answer) (o .output)
+          subst (λ (D′ : Decoder). Tied (xs
+          ++ (offered n (b .place .stream) (partNumber (b .place .part)) (w .says) room (o .answer) (o .output) ∷ [])) E D′) (sym s)
+          (still-tied xs E D T _ tt (withFinished D (mark (b .place .stream) (b .place .part) (D .finished)))
+          (accept-history xs n (b .place .stream) (b .place .part) (partNumber (b .place .part)) (w .says) room (o .answer) (o .output)
           (D .finished) (E .written) w found (sym (M .stream)) (sym (M .part)) z (T .history))
-          (fin-inv (now xs E D T) (mark (b .at .stream) (b .at .part) (D .finished))
-          (λ q h. mark-keeps (b .at .stream) (b .at .part) (D .finished) (q .stream) (q .part) h) (T .inv)))
+          (marks-invariant (now xs E D T) (mark (b .place .stream) (b .place .part) (D .finished))
+          (λ q h. mark-keeps (b .place .stream) (b .place .part) (D .finished) (q .stream) (q .part) h) (T .invariant)))
       go (left z s) =
-          subst (λ (D′ : Decoder). Tied (xs ++ (offered n (b .at .stream) (partNumber (b .at .part)) (w .says) room (o .answer) (o .output) ∷ [])) E D′) (sym s)
+          subst (λ (D′ : Decoder). Tied (xs
+          ++ (offered n (b .place .stream) (partNumber (b .place .part)) (w .says) room (o .answer) (o .output) ∷ [])) E D′) (sym s)
           (quiet-tied xs E D T _ tt z)

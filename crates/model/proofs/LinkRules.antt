@@ -1,4 +1,5 @@
--- The rules for the link give that the part of an offered block is unfinished and in turn, by the history of the events before it.
+-- The rules for the link give that the part of an offered block is unfinished and in turn.
+-- By the history of the events before it.
 use mathlib.Core.Path.{_≡_, refl, sym, ap, _∙_, subst}
 use mathlib.Core.Logic.{_⊎_, inl, inr}
 use Prim.Native.Nat.{ℕ}
@@ -7,14 +8,14 @@ use mathlib.Core.Option.{some}
 use mathlib.Core.List.{List, _∷_, _++_, append-assoc, List·Memᴰ, Memᴰ·append-left}
 use Rattle.integers.specs.Answers.{Answer}
 use Rattle.blocks.specs.Representation.{Representation}
-use Rattle.model.specs.Parts.{Part, nontrailer, trailer, partNumber, Marks}
+use Rattle.model.specs.Parts.{Part, nontrailer, trailer, partNumber, Marks, inTurn}
 use Rattle.model.specs.Outcome.{Output}
 use Rattle.model.specs.Events.{Event, offered, told}
 use Rattle.model.specs.Events as link
 use Rattle.model.specs.Link.{at, Written, writtenIn, Accepted, Rules}
 use Rattle.model.proofs.Linking.{accepted-more, Place, place}
-use Rattle.model.proofs.Core.Model.{inTurn}
-use Rattle.model.proofs.LinkHistory.{History, Cause, found-more, number-same}
+use Rattle.model.proofs.LinkHistory.{History, Cause, found-more}
+use Rattle.model.proofs.Marks.{number-same}
 
 module _ (es : List Event) (R : Rules es) (xs ys : List Event) (n s : ℕ) (p : Part) (rs : List Representation) (room : ℕ) (a : Answer) (o : Output)
     (e : es ≡ xs ++ (offered n s (partNumber p) rs room a o ∷ ys)) (b : Written) (found : at n (writtenIn xs) ≡ some b) (st : b .stream ≡ s)

@@ -1,4 +1,5 @@
--- The invariant of the link, `Tied`, and that the encoder's calls keep it: each is a step of the core and adds its event to the lists.
+-- The invariant of the link, `Tied`, and that the encoder's calls keep it: each is a change of the slots
+-- and adds its event to the lists.
 use mathlib.Core.Path.{_≡_, refl, sym, ap, _∙_, subst}
 use Prim.Native.Nat.{ℕ, suc, _<_}
 use native.Mathlib.Omega.{arith}
@@ -21,26 +22,25 @@ use Rattle.model.specs.Link.{at, saidIn, heardIn, freedIn, acknowledgedI
 use Rattle.model.proofs.Tables.{nope}
 use Rattle.model.proofs.EncoderWays.{afterBlock}
 use Rattle.model.proofs.Linking.{said-append, heard-append, freed-append, acknowledged-append, written-append}
-use Rattle.model.proofs.LinkHistory.{History, Calm, quiet-history, wrote-history, part-number}
+use Rattle.model.proofs.LinkHistory.{History, Calm, quiet-history, wrote-history}
+use Rattle.model.proofs.Marks.{part-number}
 use Rattle.model.proofs.LinkState.{linkOf, Management, management-said, Acknowledgements, acknowledgements-next, AllMeant, meant-wrote}
-use Rattle.model.proofs.LinkSteps.{step-inv}
-use Rattle.model.proofs.View.{instrOf}
+use Rattle.model.proofs.View.{slotInstruction}
 use Rattle.model.proofs.EncoderItems.{meantItems, meant-plain, meant-fields}
-use Rattle.model.proofs.EncoderView.{saidTo, block-inv, ack-found, ack-done, ack-step}
-use Rattle.model.proofs.Core.Slot.{Sent, Note, wire, Ack}
-use Rattle.model.proofs.Core.Link.{Blk, Link, Inv}
-use Rattle.model.proofs.Core.Whole.{Step, other}
+use Rattle.model.proofs.EncoderView.{saidTo, block-kept, ack-found, ack-done, ack-kept}
+use Rattle.model.proofs.Slots.Messages.{SentNote, Note, onWire, FreedNote}
+use Rattle.model.proofs.Slots.Invariant.{WrittenBlock, Link, Invariant}
 
 -- the events so far and the two ends
 pub record Tied (xs : List Event) (E : Encoder) (D : Decoder) : Type 0 where
   pub history : History xs (D .finished) (E .written)
-  pub mq : List Sent
-  pub aq : List Ack
-  pub bs : List Blk
-  pub management : Management (saidIn xs) (heardIn xs) mq
-  pub acknowledgements : Acknowledgements (freedIn xs) (acknowledgedIn xs) aq
-  pub meant : AllMeant (writtenIn xs) bs
-  pub inv : Inv (linkOf E D (length (saidIn xs)) mq aq bs)
+  pub unread : List SentNote
+  pub unreadAcks : List FreedNote
+  pub blocks : List WrittenBlock
+  pub management : Management (saidIn xs) (heardIn xs) unread
+  pub acknowledgements : Acknowledgements (freedIn xs) (acknowledgedIn xs) unreadAcks
+  pub meant : AllMeant (writtenIn xs) blocks
+  pub invariant : Invariant (linkOf E D (length (saidIn xs)) unread unreadAcks blocks)
 
 -- ---- an event that is no part of these lists
 abbrev pub Still : Event → Type 0
@@ -98,34 +98,34 @@ turn-open f s nontrailer h = open-first (f s nontrailer) h
 turn-open f s trailer h = open-second (f s nontrailer) (f s trailer) h
 
 module _ (xs : List Event) (E : Encoder) (D : Decoder) (T : Tied xs E D) where
-  -- the core's link now
+  -- the link of slots now
   abbrev pub now : Link
-  now = linkOf E D (length (saidIn xs)) (T .mq) (T .aq) (T .bs)
+  now = linkOf E D (length (saidIn xs)) (T .unread) (T .unreadAcks) (T .blocks)
 
   pub still-tied : (e : Event) → Still e → (D′ : Decoder) → History (xs ++ (e ∷ [])) (D′ .finished) (E .written)
-      → Inv (linkOf E D′ (length (saidIn xs)) (T .mq) (T .aq) (T .bs)) → Tied (xs ++ (e ∷ [])) E D′
+      → Invariant (linkOf E D′ (length (saidIn xs)) (T .unread) (T .unreadAcks) (T .blocks)) → Tied (xs ++ (e ∷ [])) E D′
   still-tied e s D′ H I =
       let m = still-same xs e s in
       record {
         history = H;
-        mq = T .mq;
-        aq = T .aq;
-        bs = T .bs;
+        unread = T .unread;
+        unreadAcks = T .unreadAcks;
+        blocks = T .blocks;
         management = rw (m .said-same, m .heard-same) (T .management);
         acknowledgements = rw (m .freed-same, m .acknowledged-same) (T .acknowledgements);
         meant = rw (m .written-same) (T .meant);
-        inv = rw (m .said-same) I;
+        invariant = rw (m .said-same) I;
       }
 
   -- nothing happened
   pub quiet-tied : (e : Event) → Still e → Calm e → Tied (xs ++ (e ∷ [])) E D
-  quiet-tied e s c = still-tied e s D (quiet-history xs e (D .finished) (E .written) c (T .history)) (T .inv)
+  quiet-tied e s c = still-tied e s D (quiet-history xs e (D .finished) (E .written) c (T .history)) (T .invariant)
 
   -- ---- an insert or a delete was written
-  pub said-tied : (i : Instruction) (l : List encoder.Sent) (note : Note) → instrOf i ≡ wire note → Manages i × Fine i
-      → Step now (saidTo now l note) other → Tied (xs ++ (said i ∷ [])) (withSent E l) D
+  pub said-tied : (i : Instruction) (l : List encoder.Sent) (note : Note) → slotInstruction i ≡ onWire note → Manages i × Fine i
+      → Invariant (saidTo now l note) → Tied (xs ++ (said i ∷ [])) (withSent E l) D
   unfolding saidIn heardIn freedIn acknowledgedIn writtenFrom linkOf
-  said-tied i l note w f s =
+  said-tied i l note w f I =
       let es : List Event = xs ++ (said i ∷ []) in
       let a : saidIn es ≡ saidIn xs ++ (i ∷ []) = said-append xs (said i ∷ []) in
       let b : heardIn es ≡ heardIn xs = heard-append xs (said i ∷ []) ∙ omega arith in
@@ -135,13 +135,13 @@ module _ (xs : List Event) (E : Encoder) (D : Decoder) (T : Tied xs E D) where
       let k : length (saidIn es) ≡ suc (length (saidIn xs)) = ap length a ∙ length-append (saidIn xs) (i ∷ []) ∙ omega arith in
       record {
         history = quiet-history xs (said i) (D .finished) (E .written) tt (T .history);
-        mq = T .mq ++ (record { no = length (saidIn xs); note = note } ∷ []);
-        aq = T .aq;
-        bs = T .bs;
-        management = rw (a, b) (management-said (saidIn xs) (heardIn xs) (T .mq) i note w f (T .management));
+        unread = T .unread ++ (record { number = length (saidIn xs); note = note } ∷ []);
+        unreadAcks = T .unreadAcks;
+        blocks = T .blocks;
+        management = rw (a, b) (management-said (saidIn xs) (heardIn xs) (T .unread) i note w f (T .management));
         acknowledgements = rw (c, d) (T .acknowledgements);
         meant = rw v (T .meant);
-        inv = rw k (step-inv now (saidTo now l note) other s (T .inv));
+        invariant = rw k I;
       }
 
   -- ---- a block was written
@@ -159,20 +159,20 @@ module _ (xs : List Event) (E : Encoder) (D : Decoder) (T : Tied xs E D) where
       let d : acknowledgedIn es ≡ acknowledgedIn xs = acknowledged-append xs (e ∷ []) ∙ omega arith in
       record {
         history = wrote-history xs s part p fs rs (D .finished) (E .written) (turn-open (E .written) s p t) low (part-number part p q) (T .history);
-        mq = T .mq;
-        aq = T .aq;
-        bs = new ∷ T .bs;
+        unread = T .unread;
+        unreadAcks = T .unreadAcks;
+        blocks = new ∷ T .blocks;
         management = rw (a, b) (T .management);
         acknowledgements = rw (c, d) (T .acknowledgements);
         meant =
             rw (written-append xs (e ∷ []))
-            (meant-wrote (writtenIn xs) (T .bs) _ new refl (sym (part-number part p q)) (meant-plain (E .entries) rs)
+            (meant-wrote (writtenIn xs) (T .blocks) _ new refl (sym (part-number part p q)) (meant-plain (E .entries) rs)
             (meant-fields (E .entries) (F .order) fs fine) refl (T .meant));
-        inv = rw a (block-inv E F now refl refl s p fs (T .inv));
+        invariant = rw a (block-kept E F now refl refl s p fs (T .invariant));
       }
     where
-      new : Blk
-      new = record { at = record { stream = s; part = p }; items = meantItems (E .entries) fs; stamp = length (saidIn xs); ord = length (T .bs) }
+      new : WrittenBlock
+      new = record { place = record { stream = s; part = p }; items = meantItems (E .entries) fs; before = length (saidIn xs) }
 
   -- ---- an acknowledgement was read: it is taken
   pub acknowledged-tied : FormsEncoder E → (i taken : ℕ) → at (acknowledgedIn xs) (freedIn xs) ≡ some i
@@ -180,11 +180,11 @@ module _ (xs : List Event) (E : Encoder) (D : Decoder) (T : Tied xs E D) where
       × Tied (xs ++ (acknowledged i (readAck E i taken .answer .number) ∷ [])) (readAck E i taken .state) D
   unfolding saidIn heardIn freedIn acknowledgedIn writtenFrom linkOf
   acknowledged-tied F i taken h =
-      let N = acknowledgements-next (freedIn xs) (acknowledgedIn xs) (T .aq) i h (T .acknowledgements) in
-      let G = ack-found E F now refl refl (T .inv) (N .ack) (N .rest) (N .split) in
+      let N = acknowledgements-next (freedIn xs) (acknowledgedIn xs) (T .unreadAcks) i h (T .acknowledgements) in
+      let G = ack-found E F now refl refl (T .invariant) (N .ack) (N .rest) (N .split) in
       let x : encoder.Sent = G .sent in
       let o : Outcome Encoder = finish (withSent E (cut sentIndex (x .index) (E .entries))) taken 0 nothing in
-      let out : readAck E i taken ≡ o = ap (λ (j : ℕ). readAck E j taken) (sym (N .slot)) ∙ ack-done E (N .ack .slot) (N .ack .was) G taken in
+      let out : readAck E i taken ≡ o = ap (λ (j : ℕ). readAck E j taken) (sym (N .slot)) ∙ ack-done E (N .ack .slot) (N .ack .entry) G taken in
       let e : Event = acknowledged i 0 in
       let es : List Event = xs ++ (e ∷ []) in
       let a : saidIn es ≡ saidIn xs = said-append xs (e ∷ []) ∙ append-nil (saidIn xs) in
@@ -192,17 +192,16 @@ module _ (xs : List Event) (E : Encoder) (D : Decoder) (T : Tied xs E D) where
       let c : freedIn es ≡ freedIn xs = freed-append xs (e ∷ []) ∙ append-nil (freedIn xs) in
       let d : acknowledgedIn es ≡ suc (acknowledgedIn xs) = acknowledged-append xs (e ∷ []) ∙ omega arith in
       let v : writtenIn es ≡ writtenIn xs = written-append xs (e ∷ []) ∙ append-nil (writtenIn xs) in
-      let s = ack-step E F now refl refl (N .ack) (N .rest) (N .split) x (G .found) (G .holds) in
       subst (λ (r : Outcome Encoder). (r .answer .number ≡ 0) × Tied (xs ++ (acknowledged i (r .answer .number) ∷ [])) (r .state) D) (sym out) (
         refl,
         record {
           history = quiet-history xs e (D .finished) (E .written) tt (T .history);
-          mq = T .mq;
-          aq = N .rest;
-          bs = T .bs;
+          unread = T .unread;
+          unreadAcks = N .rest;
+          blocks = T .blocks;
           management = rw (a, b) (T .management);
           acknowledgements = rw (c, d) (N .after);
           meant = rw v (T .meant);
-          inv = rw a (step-inv now _ other s (T .inv));
+          invariant = rw a (ack-kept E F now refl refl (N .ack) (N .rest) (N .split) x (G .found) (G .holds) (T .invariant));
         },
       )

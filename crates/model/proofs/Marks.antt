@@ -5,7 +5,7 @@ use mathlib.Core.Logic.{_⊎_, inl, inr, ⊎-elim}
 use Prim.Native.Nat.{ℕ, zero, suc, _<_}
 use native.Mathlib.Omega.{arith}
 use mathlib.Core.Bool.{Bool, true, false, not, _&&_, _||_, or-true, and-false}
-use mathlib.Core.Option.{some}
+use mathlib.Core.Option.{some, Option, none}
 use mathlib.Core.List.{List, [], _∷_}
 use lib.Dec.{eqb, ltb}
 use borrow.Author.Tests.{eqb-true, eq-eqb, ltb-true, not-true, not-false}
@@ -13,24 +13,9 @@ use Rattle.memory.specs.Choice.{pick}
 use Rattle.memory.proofs.Order.{split, either, pick-both, pick-true, not-both}
 use Rattle.wire.specs.StreamList.{StreamList, Fits, listed, names}
 use Rattle.instructions.specs.Instruction.{FineList}
-use Rattle.model.specs.Parts.{
-  Part,
-  nontrailer,
-  trailer,
-  partOf,
-  partNumber,
-  samePart,
-  Marks,
-  mark,
-  markBoth,
-  inTurn,
-  Delete,
-  namesPart,
-  isOpen,
-  openBelow,
-  streams,
-  isReady,
-}
+use Rattle.model.specs.Parts.{Part, nontrailer, trailer, partOf, partNumber, samePart, Marks, mark, markBoth, inTurn, Delete, namesPart, isOpen}
+use Rattle.model.specs.Parts.{openBelow, streams, isReady}
+use Rattle.model.proofs.Tables.{nope, pick-eq}
 
 pub part-back : (p : Part) → partOf (partNumber p) ≡ some p
 unfolding partOf
@@ -105,7 +90,8 @@ count-none : (b : Bool) → _≡_ {A = ℕ} (pick b 1 0) 0 → b ≡ false
 count-none true h = absurd (omega arith)
 count-none false h = refl
 
-and-both : (a b : Bool) → (a && b) ≡ true → (a ≡ true) × (b ≡ true)
+-- both tests hold
+pub and-both : (a b : Bool) → (a && b) ≡ true → (a ≡ true) × (b ≡ true)
 and-both true b h = (refl, h)
 and-both false b h = (h, not-both false h refl)
 
@@ -157,3 +143,43 @@ module _ (marks : Marks) (d : Delete) where
   pub ready-or : (isReady marks d ≡ true) ⊎ OpenPart streams
   unfolding isReady
   ready-or = ⊎-elim (λ h. inl (eq-eqb (openBelow marks d streams) 0 h)) inr (open-or streams)
+
+-- ---- part numbers
+pub part-number : (n : ℕ) (p : Part) → partOf n ≡ some p → n ≡ partNumber p
+unfolding partOf
+part-number n p h =
+    pick-eq (λ (o : Option Part). o ≡ some p → n ≡ partNumber p) n 0 (some nontrailer) (pick (eqb n 1) (some trailer) none)
+    (λ e k. let z : nontrailer ≡ p = cc in e ∙ ap partNumber z)
+    (λ d. pick-eq (λ (o : Option Part). o ≡ some p → n ≡ partNumber p) n 1 (some trailer) none
+    (λ e k. let z : trailer ≡ p = cc in e ∙ ap partNumber z) (λ e k. nope (cc))) h
+
+pub number-same : (p q : Part) → partNumber p ≡ partNumber q → p ≡ q
+number-same nontrailer nontrailer h = refl
+number-same nontrailer trailer h = absurd (omega (arith, h))
+number-same trailer nontrailer h = absurd (omega (arith, h))
+number-same trailer trailer h = refl
+
+-- ---- where a mark comes from
+same-part : (p q : Part) → samePart p q ≡ true → p ≡ q
+same-part nontrailer nontrailer h = refl
+same-part nontrailer trailer h = nope (cc)
+same-part trailer nontrailer h = nope (cc)
+same-part trailer trailer h = refl
+
+-- one of two tests holds
+pub or-either : (a b : Bool) → (a || b) ≡ true → (a ≡ true) ⊎ (b ≡ true)
+or-either true b h = inl refl
+or-either false b h = inr h
+
+pub mark-from : (s : ℕ) (p : Part) (f : Marks) (t : ℕ) (q : Part) → mark s p f t q ≡ true → (f t q ≡ true) ⊎ ((s ≡ t) × (p ≡ q))
+unfolding mark
+mark-from s p f t q h =
+    pick-eq (λ (b : Bool). b ≡ true → (f t q ≡ true) ⊎ ((s ≡ t) × (p ≡ q))) s t _ _ (λ e k. go e (or-either (samePart p q) (f t q) k)) (λ e k. inl k) h
+  where
+    go : s ≡ t → (samePart p q ≡ true) ⊎ (f t q ≡ true) → (f t q ≡ true) ⊎ ((s ≡ t) × (p ≡ q))
+    go e (inl k) = inr (e, same-part p q k)
+    go e (inr k) = inl k
+
+pub both-from : (s : ℕ) (f : Marks) (t : ℕ) (q : Part) → markBoth s f t q ≡ true → (f t q ≡ true) ⊎ (s ≡ t)
+unfolding markBoth
+both-from s f t q h = pick-eq (λ (b : Bool). b ≡ true → (f t q ≡ true) ⊎ (s ≡ t)) s t _ _ (λ e k. inr e) (λ e k. inl k) h

@@ -1,14 +1,7 @@
 -- Every call's promises, put together.
+-- From the files on answers, on the blocks that could still be accepted, and on the hold enquiry.
 use Rattle.model.specs.Promises.{Promises}
-use Rattle.model.proofs.Answers.{
-  decoder-refused,
-  encoder-refused,
-  decoded-told,
-  collected-told,
-  inserted-told,
-  deleted-told,
-  encoded-told,
-}
+use Rattle.model.proofs.Answers.{decoder-refused, encoder-refused, decoded-told, collected-told, inserted-told, deleted-told, encoded-told}
 use Rattle.model.proofs.CouldStill.{done-finishes, ended-finishes}
 use Rattle.model.proofs.Holding.{hold-tells}
 

@@ -1,40 +1,39 @@
--- The decoder's reading of an insert or a delete is the core's, seen through `viewD`. Of the tests that the core lacks, "all 128 places held"
--- never fails where the limit is kept, since an entry's size is at least 32.
-use mathlib.Core.Path.{_≡_, refl, ap}
+-- An instruction that the tables as functions take is taken by the decoder, with the same tables after it. The test that they lack, "all 128
+-- places held", never fails where the limit is kept, since an entry's size is at least 32.
+use mathlib.Core.Path.{_≡_, refl, ap, _∙_}
 use Prim.Native.Nat.{ℕ, _+_, _≤_, _<_}
 use native.Mathlib.Omega.{arith}
 use native.Mathlib.Decide.{decLe}
 use mathlib.Core.Bool.{Bool, true, false, not}
 use mathlib.Core.Option.{Option, none, some}
-use mathlib.Core.List.{List, []}
+use mathlib.Core.List.{List}
 use lib.ListN.{length}
 use lib.Dec.{leb}
 use borrow.Author.Tests.{leb-true, leb-false, lt-ltb}
 use Rattle.memory.specs.Choice.{pick}
 use Rattle.memory.proofs.Order.{need-both, need-true, need-false}
 use Rattle.statics.specs.Table.{Entry, entryAt}
-use Rattle.fields.specs.Form.{Field}
 use Rattle.wire.specs.Name.{Name, indexed, literal}
 use Rattle.instructions.specs.Instruction.{Instruction, insert, delete, acknowledge, Manages}
 use Rattle.blocks.specs.Meaning.{holds, withStatics}
 use Rattle.model.specs.Table.{size, look, put}
 use Rattle.model.specs.Parts.{Delete}
-use Rattle.model.specs.Outcome.{Outcome, nothing, refuse, finish}
+use Rattle.model.specs.Outcome.{Outcome, nothing, finish}
 use Rattle.model.specs.Decoder.{Held, heldIndex, deleteIndex, Decoder, heldSize, slotIn, lookup, deleteOf, slotName, nameBytes, isSome}
 use Rattle.model.specs.Decoder.{insertNamed, deleteEntry, readInstruction, withEntries, FormsDecoder}
 use Rattle.model.proofs.Tables.{nope, total-put}
 use Rattle.model.proofs.DecoderWays.{withDelete}
-use Rattle.model.proofs.Core.Base as base
-use Rattle.model.proofs.Core.Model.{vac, live, dying, held, own, via, done, bad, Out, resolve, insIn, delIn}
-use Rattle.model.proofs.Core.Model as core
-use Rattle.model.proofs.View.{listsOf, slotAt, tabOf, viewD, sourceOf, instrOf}
-use Rattle.model.proofs.TableView.{many-held, tab-put, tab-delete}
+use Rattle.model.proofs.Slots.Functions as functions
+use Rattle.model.proofs.Slots.Machine.{emptySlot, liveSlot, deletedSlot, entryIn, ownName, nameOfSlot, resolve, insertIn, deleteIn}
+use Rattle.model.proofs.Slots.Machine.{DecoderTables, setSlot}
+use Rattle.model.proofs.Slots.Machine as machine
+use Rattle.model.proofs.View.{listsOf, slotAt, slotsOf, tablesOf, sourceOf, slotInstruction}
+use Rattle.model.proofs.TableView.{many-held, slots-put, slots-delete}
 
--- an outcome of the decoder and one of the core that are one
-pub record ReadAgrees (D : Decoder) (o : Outcome Decoder) (c : Out) : Type 0 where
-  pub view : viewD (o .state) ≡ c .st
-  pub done : (fs : List Field) → c .ans ≡ core.Ans.done fs → o .answer .number ≡ 0
-  pub bad : (n : ℕ) → c .ans ≡ core.Ans.bad n → (o .answer .number ≡ 0 → ⊥) × (o .state ≡ D)
+-- where the tables as functions take the instruction, the decoder takes it, and then has those tables
+pub record ReadAgrees (o : Outcome Decoder) (c : Option DecoderTables) : Type 0 where
+  pub view : (T : DecoderTables) → c ≡ some T → tablesOf (o .state) ≡ T
+  pub done : (T : DecoderTables) → c ≡ some T → o .answer .number ≡ 0
 
 -- ---- the name of an insert
 abbrev withName : List ℕ → Option (List ℕ) → Option Entry
@@ -42,40 +41,40 @@ withName value none = none
 withName value (some name) = some (record { name = name; value = value })
 
 module _ (D : Decoder) (value : List ℕ) where
-  name-via : (i : ℕ) (o : Option Held) (d : Option Delete)
-      → elim (held (slotAt o d)) [ none ↦ none | some c ↦ some (record { name = c .name; value = value }) ] ≡ withName value (slotName (slotIn o))
+  name-of-slot : (i : ℕ) (o : Option Held) (d : Option Delete)
+      → elim (entryIn (slotAt o d)) [ none ↦ none | some c ↦ some (record { name = c .name; value = value }) ] ≡ withName value (slotName (slotIn o))
   unfolding slotName slotIn
-  name-via i none d = refl
-  name-via i (some h) none = refl
-  name-via i (some h) (some d) = refl
+  name-of-slot i none d = refl
+  name-of-slot i (some h) none = refl
+  name-of-slot i (some h) (some d) = refl
 
-  pub name-view : (name : Name) → resolve (tabOf D) (sourceOf name value) ≡ withName value (nameBytes (lookup D) name)
-  unfolding resolve tabOf sourceOf nameBytes lookup withStatics slotName
+  pub name-view : (name : Name) → resolve (slotsOf D) (sourceOf name value) ≡ withName value (nameBytes (lookup D) name)
+  unfolding resolve slotsOf sourceOf nameBytes lookup withStatics slotName
   name-view (indexed i) = go (leb i 61)
     where
-      go : (b : Bool) → resolve (tabOf D) (pick b (own (record { name = entryAt i .name; value = value })) (via i value))
+      go : (b : Bool) → resolve (slotsOf D) (pick b (ownName (record { name = entryAt i .name; value = value })) (nameOfSlot i value))
           ≡ withName value (slotName (pick b (holds (entryAt i)) (slotIn (look heldIndex i (D .entries)))))
       go true = refl
-      go false = name-via i (look heldIndex i (D .entries)) (look deleteIndex i (D .deletes))
+      go false = name-of-slot i (look heldIndex i (D .entries)) (look deleteIndex i (D .deletes))
   name-view (literal xs) = refl
 
 -- ---- the calls
-refused : (D : Decoder) (n : ℕ) → (n ≡ 0 → ⊥) → ReadAgrees D (refuse D n) (core.refuse (viewD D) n)
-refused D n h = record { view = refl; done = λ fs e. nope (cc); bad = λ m e. (h, refl) }
+some-same : {T U : DecoderTables} → some T ≡ some U → T ≡ U
+some-same e = cc
+
+refused : (o : Outcome Decoder) → ReadAgrees o none
+refused o = record { view = λ T e. nope (cc); done = λ T e. nope (cc) }
 
 module _ (D : Decoder) (F : FormsDecoder D) (i taken : ℕ) where
   insert-done : (c : Entry) → look heldIndex i (D .entries) ≡ none → heldSize (D .entries) + size c ≤ D .limit
-      → ReadAgrees D (finish (withEntries D (put heldIndex (record { index = i; entry = c }) (D .entries))) taken 0 nothing)
-      (record {
-        st = record { tab = base.set i (live c) (tabOf D); fin = D .finished; hold = heldSize (D .entries) + size c; limit = D .limit };
-        ans = core.Ans.done [];
-      })
-  unfolding viewD heldSize
+      → ReadAgrees (finish (withEntries D (put heldIndex (record { index = i; entry = c }) (D .entries))) taken 0 nothing)
+      (some (setSlot (tablesOf D) i (liveSlot c) (heldSize (D .entries) + size c)))
+  unfolding tablesOf setSlot heldSize
   insert-done c e f =
       let h : Held = record { index = i; entry = c } in
-      let t = tab-put D F h e in
+      let t = slots-put D F h e in
       let w = total-put heldIndex (λ x. size (x .entry)) h (D .entries) in
-      record { view = λ k. record { tab = t k; fin = D .finished; hold = w k; limit = D .limit }; done = λ fs q. refl; bad = λ n q. nope (cc) }
+      record { view = λ T q. (λ k. record { slots = t k; finished = D .finished; filled = w k; limit = D .limit }) ∙ some-same q; done = λ T q. refl }
 
   -- the limit leaves a place
   room-left : (c : Entry) → heldSize (D .entries) + size c ≤ D .limit → length (D .entries) < 128
@@ -83,61 +82,57 @@ module _ (D : Decoder) (F : FormsDecoder D) (i taken : ℕ) where
   room-left c f = let m = many-held (D .entries) in let l = F .limit in omega arith
 
   insert-new : (value name : List ℕ) → look heldIndex i (D .entries) ≡ none
-      → ReadAgrees D (insertNamed D i value taken (some name)) (insIn (viewD D) i vac (some (record { name = name; value = value })))
-  unfolding insertNamed insIn viewD
+      → ReadAgrees (insertNamed D i value taken (some name)) (insertIn (tablesOf D) i emptySlot (some (record { name = name; value = value })))
+  unfolding insertNamed insertIn tablesOf
   insert-new value name e =
       let c : Entry = record { name = name; value = value } in
       let free : not (isSome (look heldIndex i (D .entries))) ≡ true = ap (λ (o : Option Held). not (isSome o)) e in
       rw (need-true _ _ _ free)
-      (need-both (λ (o : Outcome Decoder). ReadAgrees D o (insIn (viewD D) i vac (some c))) (leb (heldSize (D .entries) + size c) (D .limit)) _ _
+      (need-both (λ (o : Outcome Decoder). ReadAgrees o (insertIn (tablesOf D) i emptySlot (some c))) (leb (heldSize (D .entries) + size c) (D .limit)) _ _
       (λ g.
       let over = leb-false (heldSize (D .entries) + size c) (D .limit) g in
-      rw (base.pick-no (decLe (heldSize (D .entries) + size c) (D .limit)) _ _ (λ t. omega arith)) (refused D 7 (λ z. omega arith)))
+      rw (functions.decided-no (decLe (heldSize (D .entries) + size c) (D .limit)) _ _ (λ t. omega arith)) (refused _))
       (λ g.
       let fits = leb-true (heldSize (D .entries) + size c) (D .limit) g in
-      rw (base.pick-yes (decLe (heldSize (D .entries) + size c) (D .limit)) _ _ fits, need-true _ _ _ (lt-ltb _ _ (room-left c fits)))
+      rw (functions.decided-yes (decLe (heldSize (D .entries) + size c) (D .limit)) _ _ fits, need-true _ _ _ (lt-ltb _ _ (room-left c fits)))
       (insert-done c e fits)))
 
   insert-agrees : (value : List ℕ) (o : Option Held) → look heldIndex i (D .entries) ≡ o → (d : Option Delete) (r : Option (List ℕ))
-      → ReadAgrees D (insertNamed D i value taken r) (insIn (viewD D) i (slotAt o d) (withName value r))
-  unfolding insertNamed insIn
-  insert-agrees value none e d none = refused D 8 (λ z. omega arith)
-  insert-agrees value (some h) e none none = refused D 8 (λ z. omega arith)
-  insert-agrees value (some h) e (some d) none = refused D 8 (λ z. omega arith)
+      → ReadAgrees (insertNamed D i value taken r) (insertIn (tablesOf D) i (slotAt o d) (withName value r))
+  unfolding insertNamed insertIn
+  insert-agrees value none e d none = refused _
+  insert-agrees value (some h) e none none = refused _
+  insert-agrees value (some h) e (some d) none = refused _
   insert-agrees value none e d (some name) = insert-new value name e
   insert-agrees value (some h) e none (some name) =
-      rw (need-false _ _ _ (ap (λ (o : Option Held). not (isSome o)) e)) (refused D 6 (λ z. omega arith))
+      rw (need-false _ _ _ (ap (λ (o : Option Held). not (isSome o)) e)) (refused _)
   insert-agrees value (some h) e (some d) (some name) =
-      rw (need-false _ _ _ (ap (λ (o : Option Held). not (isSome o)) e)) (refused D 6 (λ z. omega arith))
+      rw (need-false _ _ _ (ap (λ (o : Option Held). not (isSome o)) e)) (refused _)
 
   delete-done : (d : Delete) (h : Held) → look heldIndex (d .index) (D .entries) ≡ some h → look deleteIndex (d .index) (D .deletes) ≡ none
-      → ReadAgrees D (finish (withDelete D d) taken 0 nothing)
-      (record {
-        st = record { tab = base.set (d .index) (dying (h .entry) (listsOf d)) (tabOf D); fin = D .finished; hold = heldSize (D .entries); limit = D .limit };
-        ans = core.Ans.done [];
-      })
-  unfolding viewD
+      → ReadAgrees (finish (withDelete D d) taken 0 nothing)
+      (some (setSlot (tablesOf D) (d .index) (deletedSlot (h .entry) (listsOf d)) (heldSize (D .entries))))
+  unfolding tablesOf setSlot
   delete-done d h e q =
-      let t = tab-delete D d h e q in
+      let t = slots-delete D d h e q in
       record {
-        view = λ k. record { tab = t k; fin = D .finished; hold = heldSize (D .entries); limit = D .limit };
-        done = λ fs z. refl;
-        bad = λ n z. nope (cc);
+        view = λ T z. (λ k. record { slots = t k; finished = D .finished; filled = heldSize (D .entries); limit = D .limit }) ∙ some-same z;
+        done = λ T z. refl;
       }
 
   delete-agrees : (d : Delete) (o : Option Held) → look heldIndex (d .index) (D .entries) ≡ o
       → (x : Option Delete) → look deleteIndex (d .index) (D .deletes) ≡ x
-      → ReadAgrees D (deleteEntry D d taken) (delIn (viewD D) (d .index) (listsOf d) (slotAt o x))
-  unfolding deleteEntry delIn viewD deleteOf
-  delete-agrees d none e x q = rw (need-false _ _ _ (ap isSome e)) (refused D 8 (λ z. omega arith))
+      → ReadAgrees (deleteEntry D d taken) (deleteIn (tablesOf D) (d .index) (listsOf d) (slotAt o x))
+  unfolding deleteEntry deleteIn tablesOf deleteOf
+  delete-agrees d none e x q = rw (need-false _ _ _ (ap isSome e)) (refused _)
   delete-agrees d (some h) e none q =
       rw (need-true _ _ _ (ap isSome e), need-true _ _ _ (ap (λ (o : Option Delete). not (isSome o)) q)) (delete-done d h e q)
   delete-agrees d (some h) e (some y) q =
-      rw (need-true _ _ _ (ap isSome e), need-false _ _ _ (ap (λ (o : Option Delete). not (isSome o)) q)) (refused D 9 (λ z. omega arith))
+      rw (need-true _ _ _ (ap isSome e), need-false _ _ _ (ap (λ (o : Option Delete). not (isSome o)) q)) (refused _)
 
 pub read-agrees : (D : Decoder) → FormsDecoder D → (x : Instruction) (taken : ℕ) → Manages x
-    → ReadAgrees D (readInstruction D x taken) (core.read (viewD D) (instrOf x))
-unfolding readInstruction core.read instrOf viewD tabOf
+    → ReadAgrees (readInstruction D x taken) (machine.read (tablesOf D) (slotInstruction x))
+unfolding readInstruction machine.read slotInstruction tablesOf slotsOf
 read-agrees D F (insert i name value) taken m =
     rw (name-view D value name)
     (insert-agrees D F i taken value (look heldIndex i (D .entries)) refl (look deleteIndex i (D .deletes)) (nameBytes (lookup D) name))

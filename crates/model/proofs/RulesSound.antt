@@ -6,19 +6,8 @@ use Prim.Native.Nat.{ℕ, zero, suc, _≤_}
 use native.Mathlib.Omega.{arith}
 use mathlib.Core.Bool.{Bool, true, false, not, _&&_, _||_}
 use mathlib.Core.Option.{Option, none, some}
-use mathlib.Core.List.{
-  List,
-  [],
-  _∷_,
-  _++_,
-  append-nil,
-  append-assoc,
-  List·Memᴰ,
-  List·Memᴰ·head,
-  List·Memᴰ·tail,
-  List·Memᴰ·cases-cons,
-  List·Memᴰ·not-nil,
-}
+use mathlib.Core.List.{List, [], _∷_, _++_, append-nil, append-assoc, List·Memᴰ, List·Memᴰ·head, List·Memᴰ·tail, List·Memᴰ·cases-cons}
+use mathlib.Core.List.{List·Memᴰ·not-nil}
 use lib.ListN.{length}
 use lib.Dec.{eqb, leb}
 use borrow.Author.Tests.{eqb-true, eq-eqb, leb-true, not-true}
@@ -29,28 +18,12 @@ use Rattle.blocks.specs.Representation.{Representation}
 use Rattle.model.specs.Outcome.{Output}
 use Rattle.model.specs.Events.{Event, said, wrote, acknowledged, heard, offered, freed, told, reset, quiet}
 use Rattle.model.specs.Link.{at, saidIn, heardIn, freedIn, acknowledgedIn, Written, writtenIn, Accepted, Rules}
-use Rattle.model.proofs.Equality.{both, sameInstruction, sameBlock, same-instruction, same-block}
-use Rattle.model.proofs.RulesCheck.{
-  any,
-  anyAt,
-  allAt,
-  passes,
-  isDone,
-  isReset,
-  accepted,
-  asWritten,
-  acceptedPlain,
-  otherOrAccepted,
-  keepsEvent,
-  keepsFrom,
-  keeps,
-}
+use Rattle.model.proofs.Equality.{sameInstruction, sameBlock, same-instruction, same-block}
+use Rattle.model.proofs.RulesCheck.{any, anyAt, allAt, passes, isDone, isReset, accepted, asWritten, acceptedPlain, otherOrAccepted}
+use Rattle.model.proofs.RulesCheck.{keepsEvent, keepsFrom, keeps}
+use Rattle.model.proofs.Marks.{and-both, or-either}
 
 -- ---- what the tests over lists say
-one-of : (a b : Bool) → a || b ≡ true → (a ≡ true) ⊎ (b ≡ true)
-one-of true b e = inl refl
-one-of false b e = inr e
-
 or-left : (a b : Bool) → a ≡ true → a || b ≡ true
 or-left a b e = ap (λ (t : Bool). t || b) e
 
@@ -66,7 +39,7 @@ module _ {X : Type 0} where
   any-member : (test : X → Bool) (l : List X) → any test l ≡ true → (x : X) × List·Memᴰ x l × (test x ≡ true)
   any-member test [] e = not-both false e refl
   any-member test (x ∷ l) e = ⊎-elim (λ t. (x, List·Memᴰ·head refl, t))
-      (λ t. let r = any-member test l t in (r .0, List·Memᴰ·tail (r .1), r .2)) (one-of (test x) (any test l) e)
+      (λ t. let r = any-member test l t in (r .0, List·Memᴰ·tail (r .1), r .2)) (or-either (test x) (any test l) e)
 
   member-any : (test : X → Bool) (l : List X) (x : X) → List·Memᴰ x l → test x ≡ true → any test l ≡ true
   member-any test [] x m t = absurd (List·Memᴰ·not-nil m)
@@ -79,16 +52,16 @@ module _ {X : Type 0} where
   anyAt-place test [] e = not-both false e refl
   anyAt-place test (x ∷ l) e = ⊎-elim (λ t. (0, x, refl, t))
       (λ t. let r = anyAt-place (λ n. test (suc n)) l t in (suc (r .0), r .1, r .2, r .3))
-      (one-of (test 0 x) (anyAt (λ n. test (suc n)) l) e)
+      (or-either (test 0 x) (anyAt (λ n. test (suc n)) l) e)
 
   allAt-place : (test : ℕ → X → Bool) (l : List X) → allAt test l ≡ true → (n : ℕ) (x : X) → at n l ≡ some x → test n x ≡ true
   unfolding at
   allAt-place test [] e n x p = let z : _≡_ {A = ℕ} 0 1 = cc in absurd (omega arith)
   allAt-place test (y ∷ l) e zero x p =
       let q : y ≡ x = cc in
-      ap (test 0) (sym q) ∙ both (test 0 y) (allAt (λ n. test (suc n)) l) e .0
+      ap (test 0) (sym q) ∙ and-both (test 0 y) (allAt (λ n. test (suc n)) l) e .0
   allAt-place test (y ∷ l) e (suc n) x p =
-      allAt-place (λ k. test (suc k)) l (both (test 0 y) (allAt (λ k. test (suc k)) l) e .1) n x p
+      allAt-place (λ k. test (suc k)) l (and-both (test 0 y) (allAt (λ k. test (suc k)) l) e .1) n x p
 
 -- ---- what the tests of events say
 done-accepted : (n : ℕ) (e : Event) (xs : List Event) → List·Memᴰ e xs → isDone n e ≡ true → Accepted n xs
@@ -97,7 +70,7 @@ done-accepted n (wrote s part fs rs) xs m e = not-both false e refl
 done-accepted n (acknowledged i number) xs m e = not-both false e refl
 done-accepted n (heard i number) xs m e = not-both false e refl
 done-accepted n (offered k s part rs room a o) xs m e =
-    let h = both (eqb k n) (eqb (a .number) 0) e in
+    let h = and-both (eqb k n) (eqb (a .number) 0) e in
     subst (λ j. Accepted j xs) (eqb-true k n (h .0))
     (record { stream = s; part = part; says = rs; room = room; answer = a; output = o; done = eqb-true (a .number) 0 (h .1); when = m })
 done-accepted n (freed i) xs m e = not-both false e refl
@@ -137,10 +110,10 @@ reset-complete s xs m = member-any (isReset s) xs (reset s) m (eq-eqb s s refl)
 -- ---- each event of a list that passes, passes
 event-keeps : (es before xs ys : List Event) (e : Event) → keepsFrom es before (xs ++ (e ∷ ys)) ≡ true → keepsEvent es (before ++ xs) e ≡ true
 event-keeps es before [] ys e k =
-    rw append-nil (both (keepsEvent es before e) (keepsFrom es (before ++ (e ∷ [])) ys) k .0)
+    rw append-nil (and-both (keepsEvent es before e) (keepsFrom es (before ++ (e ∷ [])) ys) k .0)
 event-keeps es before (x ∷ xs) ys e k =
     rw append-assoc at (event-keeps es (before ++ (x ∷ [])) xs ys e
-    (both (keepsEvent es before x) (keepsFrom es (before ++ (x ∷ [])) (xs ++ (e ∷ ys))) k .1))
+    (and-both (keepsEvent es before x) (keepsFrom es (before ++ (x ∷ [])) (xs ++ (e ∷ ys))) k .1))
 
 module _ (es : List Event) (k : keeps es ≡ true) where
   at-event : (xs ys : List Event) (e : Event) → es ≡ xs ++ (e ∷ ys) → keepsEvent es xs e ≡ true
@@ -156,9 +129,9 @@ module _ (es : List Event) (k : keeps es ≡ true) where
       let W = passes (asWritten s part rs room) (at n (writtenIn xs)) in
       let N = not (accepted n xs) in
       let T = not (eqb part 1) || anyAt (acceptedPlain s xs) (writtenIn xs) in
-      let h = both (W && N && T) (not (any (isReset s) xs)) (at-event xs ys (offered n s part rs room a o) p) in
-      let g = both (W && N) T (h .0) in
-      let f = both W N (g .0) in
+      let h = and-both (W && N && T) (not (any (isReset s) xs)) (at-event xs ys (offered n s part rs room a o) p) in
+      let g = and-both (W && N) T (h .0) in
+      let f = and-both W N (g .0) in
       (f .0, f .1, g .1, h .1)
 
   unchanged : (xs ys : List Event) (n s part : ℕ) (rs : List Representation) (room : ℕ) (a : Answer) (o : Output)
@@ -171,9 +144,9 @@ module _ (es : List Event) (k : keeps es ≡ true) where
       let S = eqb (w .stream) s in
       let P = eqb (w .part) part in
       let R = sameBlock (w .says) rs in
-      let h = both (S && P && R) (leb (length (listForm (w .fields))) room) (r .2) in
-      let g = both (S && P) R (h .0) in
-      let f = both S P (g .0) in (
+      let h = and-both (S && P && R) (leb (length (listForm (w .fields))) room) (r .2) in
+      let g = and-both (S && P) R (h .0) in
+      let f = and-both S P (g .0) in (
         w,
         r .1,
         eqb-true (w .stream) s (f .0),
@@ -189,20 +162,20 @@ module _ (es : List Event) (k : keeps es ≡ true) where
       let r = anyAt-place (acceptedPlain s xs) (writtenIn xs) (as-written xs ys n s 1 rs room a o p .2) in
       let m = r .0 in
       let w = r .1 in
-      let h = both (eqb (w .stream) s && eqb (w .part) 0) (accepted m xs) (r .3) in
-      let g = both (eqb (w .stream) s) (eqb (w .part) 0) (h .0) in
+      let h = and-both (eqb (w .stream) s && eqb (w .part) 0) (accepted m xs) (r .3) in
+      let g = and-both (eqb (w .stream) s) (eqb (w .part) 0) (h .0) in
       (m, w, r .2, eqb-true (w .stream) s (g .0), eqb-true (w .part) 0 (g .1), accepted-sound m xs (h .1))
 
   ends : (xs ys : List Event) (s : ℕ) → es ≡ xs ++ (told s ∷ ys)
       → ((n : ℕ) (w : Written) → at n (writtenIn es) ≡ some w → w .stream ≡ s → Accepted n xs) ⊎ List·Memᴰ (reset s) xs
   ends xs ys s p =
       ⊎-elim (λ t. inl (λ n w q e. each n w e (allAt-place (otherOrAccepted s xs) (writtenIn es) t n w q))) (λ t. inr (reset-sound s xs t))
-      (one-of (allAt (otherOrAccepted s xs) (writtenIn es)) (any (isReset s) xs) (at-event xs ys (told s) p))
+      (or-either (allAt (otherOrAccepted s xs) (writtenIn es)) (any (isReset s) xs) (at-event xs ys (told s) p))
     where
       each : (n : ℕ) (w : Written) → w .stream ≡ s → otherOrAccepted s xs n w ≡ true → Accepted n xs
       each n w e t =
           ⊎-elim (λ u. not-both (eqb (w .stream) s) (eq-eqb (w .stream) s e) (not-true (eqb (w .stream) s) u)) (λ u. accepted-sound n xs u)
-          (one-of (not (eqb (w .stream) s)) (accepted n xs) t)
+          (or-either (not (eqb (w .stream) s)) (accepted n xs) t)
 
 pub keeps-sound : (es : List Event) → keeps es ≡ true → Rules es
 keeps-sound es k = record {

@@ -15,53 +15,12 @@ use Rattle.blocks.specs.Representation.{representationWire, blockWire}
 use Rattle.blocks.specs.Meaning.{withStatics, fieldMeaning, blockMeaning, blockReferences}
 use Rattle.model.specs.Table.{size, look, put, cut, lowest, vacantFrom, total}
 use Rattle.model.specs.Parts.{partOf, mark, markBoth, inTurn, namesPart, isOpen, openBelow, isReady}
-use Rattle.model.specs.Decoder.{
-  heldSize,
-  slotIn,
-  lookup,
-  deleteOf,
-  startDecoder,
-  slotName,
-  nameBytes,
-  insertNamed,
-  deleteEntry,
-  readInstruction,
-  giveFields,
-  decodePart,
-  decodeBlock,
-  endStream,
-  readyDelete,
-  ready,
-  nextFreed,
-  without,
-  freeEntry,
-  collectEntry,
-}
-use Rattle.model.specs.Encoder.{
-  sentSize,
-  startEncoder,
-  serves,
-  servesBoth,
-  dynamicName,
-  staticName,
-  chooseName,
-  dynamicField,
-  staticField,
-  choose,
-  insertAt,
-  insertEntry,
-  deleteAt,
-  deleteFound,
-  deleteSent,
-  mentions,
-  referred,
-  refer,
-  writePart,
-  encodePart,
-  encodeBlock,
-  acknowledgeFound,
-  readAck,
-}
+use Rattle.model.specs.Decoder.{heldSize, slotIn, lookup, deleteOf, startDecoder, slotName, nameBytes, insertNamed, deleteEntry}
+use Rattle.model.specs.Decoder.{readInstruction, giveFields, decodePart, decodeBlock, endStream, readyDelete, ready, nextFreed, without}
+use Rattle.model.specs.Decoder.{freeEntry, collectEntry}
+use Rattle.model.specs.Encoder.{sentSize, startEncoder, serves, servesBoth, dynamicName, staticName, chooseName, dynamicField, staticField}
+use Rattle.model.specs.Encoder.{choose, insertAt, insertEntry, deleteAt, deleteFound, deleteSent, mentions, referred, refer, writePart}
+use Rattle.model.specs.Encoder.{encodePart, encodeBlock, acknowledgeFound, readAck}
 use Rattle.model.specs.EncoderCalls.{encoderCall}
 use Rattle.model.specs.Events.{LinkCall, Event, saidBy, wroteBy, encoderEvent, freedBy, toldBy, turn, events, endsAfter, fresh}
 

@@ -25,21 +25,8 @@ use Rattle.model.specs.Outcome.{Output, nothing, instruction, block, fie
 use Rattle.model.specs.Decoder.{Decoder, readInstruction, FormsDecoder}
 use Rattle.model.specs.DecoderCalls.{DecoderCall, decoderCall}
 use Rattle.model.specs.DecoderCalls as at-decoder
-use Rattle.model.specs.Encoder.{
-  Sent,
-  sentIndex,
-  Encoder,
-  serves,
-  servesBoth,
-  dynamicName,
-  staticName,
-  chooseName,
-  dynamicField,
-  staticField,
-  choose,
-  FineSent,
-  FormsEncoder,
-}
+use Rattle.model.specs.Encoder.{Sent, sentIndex, Encoder, serves, servesBoth, dynamicName, staticName, chooseName, dynamicField, staticField}
+use Rattle.model.specs.Encoder.{choose, FineSent, FormsEncoder}
 use Rattle.model.specs.EncoderCalls.{EncoderCall, encoderCall}
 use Rattle.model.specs.EncoderCalls as at-encoder
 use Rattle.model.proofs.Tables.{nope, lowest-sound}

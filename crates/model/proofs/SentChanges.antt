@@ -13,34 +13,10 @@ use Rattle.blocks.specs.Representation.{Representation}
 use Rattle.blocks.specs.Meaning.{blockReferences}
 use Rattle.model.specs.Table.{size, look, put, cut}
 use Rattle.model.specs.Parts.{Part, nontrailer, trailer, Marks, streams}
-use Rattle.model.specs.Encoder.{
-  Sent,
-  sentIndex,
-  Encoder,
-  sentSize,
-  withSent,
-  asDeleted,
-  deleteAt,
-  mentions,
-  referred,
-  refer,
-  FineSent,
-  FormsEncoder,
-}
-use Rattle.model.proofs.Tables.{
-  nope,
-  look-put,
-  asc-put,
-  total-put,
-  length-put,
-  look-cut,
-  asc-cut,
-  total-cut,
-  length-cut,
-  look-map,
-  asc-map,
-  total-map,
-}
+use Rattle.model.specs.Encoder.{Sent, sentIndex, Encoder, sentSize, withSent, asDeleted, deleteAt, mentions, referred, refer, FineSent}
+use Rattle.model.specs.Encoder.{FormsEncoder}
+use Rattle.model.proofs.Tables.{nope, look-put, asc-put, total-put, length-put, look-cut, asc-cut, total-cut, length-cut, look-map, asc-map}
+use Rattle.model.proofs.Tables.{total-map}
 
 -- ---- what a delete and a block change of an entry: not what it holds; horizons stay at most 4,096
 

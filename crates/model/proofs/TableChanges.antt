@@ -11,20 +11,8 @@ use lib.Dec.{eqb}
 use Rattle.memory.proofs.Order.{pick-both}
 use Rattle.model.specs.Table.{size, look, put, cut}
 use Rattle.model.specs.Parts.{Marks, Delete}
-use Rattle.model.specs.Decoder.{
-  Held,
-  heldIndex,
-  deleteIndex,
-  Decoder,
-  heldSize,
-  withEntries,
-  isSome,
-  withFinished,
-  without,
-  FineHeld,
-  FineDelete,
-  FormsDecoder,
-}
+use Rattle.model.specs.Decoder.{Held, heldIndex, deleteIndex, Decoder, heldSize, withEntries, isSome, withFinished, without, FineHeld}
+use Rattle.model.specs.Decoder.{FineDelete, FormsDecoder}
 use Rattle.model.proofs.Tables.{nope, look-index, look-put, asc-put, total-put, length-put, look-cut, asc-cut, total-cut, length-cut}
 use Rattle.model.proofs.DecoderWays.{withDelete}
 use Rattle.model.proofs.Deletes.{look-append, look-append-some, distinct-append, distinct-cut, look-cut-distinct}

@@ -1,38 +1,38 @@
--- The decoder's lists changed, seen as the core's functions changed at one index or one stream. By two facts each: what stands at the
--- place, and that nothing else changes.
+-- The decoder's lists changed, seen as functions of the index changed at one place. By two facts each: what stands at the place, and that
+-- nothing else changes.
 use mathlib.Core.Path.{_≡_, refl, sym, ap, _∙_, subst, fun-ext}
 use Prim.Native.Nat.{ℕ, _*_, _≤_}
 use native.Mathlib.Omega.{arith}
-use mathlib.Core.Bool.{Bool, true, false, _||_}
+use mathlib.Core.Bool.{false}
 use mathlib.Core.Option.{Option, none, some}
 use mathlib.Core.List.{List, [], _∷_, _++_}
 use lib.ListN.{length}
+use Rattle.statics.specs.Table.{Entry}
 use Rattle.model.specs.Table.{size, look, put, total}
-use Rattle.model.specs.Parts.{Part, nontrailer, trailer, samePart, Marks, mark, markBoth, inTurn, Delete}
+use Rattle.model.specs.Parts.{Delete}
 use Rattle.model.specs.Decoder.{Held, heldIndex, deleteIndex, Decoder, heldSize, withEntries, isSome, without, FormsDecoder}
 use Rattle.model.proofs.Tables.{nope, pick-yes, pick-no, look-index, look-put, look-cut}
 use Rattle.model.proofs.Deletes.{look-append, look-append-some, look-cut-distinct}
 use Rattle.model.proofs.DecoderWays.{withDelete}
-use Rattle.model.proofs.Core.Base.{set, set-hit, set-miss, same?}
-use Rattle.model.proofs.Core.Model.{vac, live, dying, held, isPart, markEnd}
-use Rattle.model.proofs.Core.Model as core
-use Rattle.model.proofs.View.{listsOf, slotAt, tabOf}
+use Rattle.model.proofs.Slots.Functions.{setAt, set-here, set-elsewhere, same-or-not}
+use Rattle.model.proofs.Slots.Machine.{emptySlot, liveSlot, deletedSlot, entryIn}
+use Rattle.model.proofs.View.{listsOf, slotAt, slotsOf}
 
 -- g is f with another value at k
-pub is-set {ℓ} : {A : Type ℓ} (f g : ℕ → A) (k : ℕ) (a : A) → g k ≡ a → ((i : ℕ) → (k ≡ i → ⊥) → g i ≡ f i) → g ≡ set k a f
+pub is-set {ℓ} : {A : Type ℓ} (f g : ℕ → A) (k : ℕ) (a : A) → g k ≡ a → ((i : ℕ) → (k ≡ i → ⊥) → g i ≡ f i) → g ≡ setAt k a f
 is-set f g k a hit miss =
-    fun-ext (λ i. same? k i
-    (λ e. subst (λ (t : ℕ). g t ≡ set k a f t) e (hit ∙ sym (set-hit k a f)))
-    (λ n. miss i n ∙ sym (set-miss k i a f n)))
+    fun-ext (λ i. same-or-not k i
+    (λ e. subst (λ (t : ℕ). g t ≡ setAt k a f t) e (hit ∙ sym (set-here k a f)))
+    (λ n. miss i n ∙ sym (set-elsewhere k i a f n)))
 
 -- ---- what is held
-held-slot : (o : Option Held) (d : Option Delete) → isSome (held (slotAt o d)) ≡ isSome o
+held-slot : (o : Option Held) (d : Option Delete) → isSome (entryIn (slotAt o d)) ≡ isSome o
 held-slot none d = refl
 held-slot (some h) none = refl
 held-slot (some h) (some d) = refl
 
-pub held-view : (D : Decoder) (i : ℕ) → isSome (held (tabOf D i)) ≡ isSome (look heldIndex i (D .entries))
-unfolding tabOf
+pub held-view : (D : Decoder) (i : ℕ) → isSome (entryIn (slotsOf D i)) ≡ isSome (look heldIndex i (D .entries))
+unfolding slotsOf
 held-view D i = held-slot (look heldIndex i (D .entries)) (look deleteIndex i (D .deletes))
 
 -- every entry is at least 32, so that the limit is met before all places are held
@@ -55,18 +55,18 @@ module _ (D : Decoder) (F : FormsDecoder D) where
           let gone : isSome (look heldIndex (d .index) (D .entries)) ≡ false = rw same (ap isSome e) in
           nope (cc)
 
-  pub tab-put : (h : Held) → look heldIndex (h .index) (D .entries) ≡ none
-      → tabOf (withEntries D (put heldIndex h (D .entries))) ≡ set (h .index) (live (h .entry)) (tabOf D)
-  unfolding tabOf
-  tab-put h e =
-      is-set (tabOf D) (tabOf (withEntries D (put heldIndex h (D .entries)))) (h .index) (live (h .entry))
+  pub slots-put : (h : Held) → look heldIndex (h .index) (D .entries) ≡ none
+      → slotsOf (withEntries D (put heldIndex h (D .entries))) ≡ setAt (h .index) (liveSlot (h .entry)) (slotsOf D)
+  unfolding slotsOf
+  slots-put h e =
+      is-set (slotsOf D) (slotsOf (withEntries D (put heldIndex h (D .entries)))) (h .index) (liveSlot (h .entry))
       (rw (look-put heldIndex (h .index) h (D .entries) e ∙ pick-yes (h .index) (h .index) _ _ refl, no-delete (h .index) e))
       (λ i n. rw (look-put heldIndex i h (D .entries) e ∙ pick-no (h .index) i _ _ n))
 
-  pub tab-cut : (k : ℕ) → tabOf (without D k) ≡ set k vac (tabOf D)
-  unfolding tabOf without
-  tab-cut k =
-      is-set (tabOf D) (tabOf (without D k)) k vac
+  pub slots-cut : (k : ℕ) → slotsOf (without D k) ≡ setAt k emptySlot (slotsOf D)
+  unfolding slotsOf without
+  slots-cut k =
+      is-set (slotsOf D) (slotsOf (without D k)) k emptySlot
       (rw (look-cut heldIndex k k 62 (D .entries) (F .order) ∙ pick-yes k k _ _ refl))
       (λ i n. rw (
         look-cut heldIndex k i 62 (D .entries) (F .order) ∙ pick-no k i _ _ n,
@@ -86,34 +86,21 @@ delete-miss l d i n = go (look deleteIndex i l) refl
     go none e = look-append deleteIndex i l (d ∷ []) e ∙ pick-no (d .index) i _ _ n
     go (some x) e = look-append-some deleteIndex i l (d ∷ []) x e
 
-pub tab-delete : (D : Decoder) (d : Delete) (h : Held) → look heldIndex (d .index) (D .entries) ≡ some h
-    → look deleteIndex (d .index) (D .deletes) ≡ none → tabOf (withDelete D d) ≡ set (d .index) (dying (h .entry) (listsOf d)) (tabOf D)
-unfolding tabOf
-tab-delete D d h e q =
-    is-set (tabOf D) (tabOf (withDelete D d)) (d .index) (dying (h .entry) (listsOf d))
+pub slots-delete : (D : Decoder) (d : Delete) (h : Held) → look heldIndex (d .index) (D .entries) ≡ some h
+    → look deleteIndex (d .index) (D .deletes) ≡ none → slotsOf (withDelete D d) ≡ setAt (d .index) (deletedSlot (h .entry) (listsOf d)) (slotsOf D)
+unfolding slotsOf
+slots-delete D d h e q =
+    is-set (slotsOf D) (slotsOf (withDelete D d)) (d .index) (deletedSlot (h .entry) (listsOf d))
     (rw (e, delete-hit (D .deletes) d q))
     (λ i n. rw (delete-miss (D .deletes) d i n))
 
--- ---- the finished parts
-same-part : (p q : Part) → samePart p q ≡ isPart p q
-same-part nontrailer nontrailer = refl
-same-part nontrailer trailer = refl
-same-part trailer nontrailer = refl
-same-part trailer trailer = refl
+-- ---- what is vacant
+is-none : (o : Option Entry) → isSome o ≡ false → o ≡ none
+is-none none e = refl
+is-none (some c) e = nope (cc)
 
-pub mark-view : (s : ℕ) (p : Part) (marks : Marks) → mark s p marks ≡ core.mark s p marks
-unfolding mark core.mark
-mark-view s p marks =
-    is-set marks (mark s p marks) s (λ q. isPart p q || marks s q)
-    (fun-ext (λ q. pick-yes s s _ _ refl ∙ ap (λ (b : Bool). b || marks s q) (same-part p q)))
-    (λ i n. fun-ext (λ q. pick-no s i _ _ n))
+pub vacant-there : (D : Decoder) (i : ℕ) → isSome (look heldIndex i (D .entries)) ≡ false → entryIn (slotsOf D i) ≡ none
+vacant-there D i e = is-none (entryIn (slotsOf D i)) (held-view D i ∙ e)
 
-pub both-view : (s : ℕ) (marks : Marks) → markBoth s marks ≡ markEnd s marks
-unfolding markBoth markEnd
-both-view s marks =
-    is-set marks (markBoth s marks) s (λ q. true) (fun-ext (λ q. pick-yes s s _ _ refl)) (λ i n. fun-ext (λ q. pick-no s i _ _ n))
-
-pub turn-view : (marks : Marks) (s : ℕ) (p : Part) → inTurn marks s p ≡ core.inTurn marks s p
-unfolding inTurn core.inTurn
-turn-view marks s nontrailer = refl
-turn-view marks s trailer = refl
+pub vacant-back : (D : Decoder) (i : ℕ) → entryIn (slotsOf D i) ≡ none → isSome (look heldIndex i (D .entries)) ≡ false
+vacant-back D i e = sym (held-view D i) ∙ ap isSome e

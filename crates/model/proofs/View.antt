@@ -1,4 +1,4 @@
--- The tables' lists seen as the core's functions of the index: the decoder's entries with their deletes, the encoder's entries, and what
+-- The tables' lists seen as functions of the index: the decoder's entries with their deletes, the encoder's entries, and what
 -- instructions and blocks say of dynamic slots.
 use Prim.Native.Nat.{ℕ}
 use mathlib.Core.Bool.{Bool, true, false}
@@ -15,64 +15,70 @@ use Rattle.model.specs.Table.{look}
 use Rattle.model.specs.Parts.{Delete}
 use Rattle.model.specs.Decoder.{Held, heldIndex, deleteIndex, Decoder, heldSize}
 use Rattle.model.specs.Encoder.{Sent, sentIndex}
-use Rattle.model.proofs.Core.Model.{Lists, noLists, DSlot, vac, live, dying, DTab, Src, own, via, Instr, ins, del}
-use Rattle.model.proofs.Core.Model.{Item, lit, idx, nam, Dec, asIdx, asNam}
-use Rattle.model.proofs.Core.Slot.{ESlot, efree, elive, egone}
+use Rattle.model.proofs.Slots.Machine.{DeleteLists, noLists, DecoderSlot, emptySlot, liveSlot, deletedSlot, DecoderSlots, NameSource, ownName}
+use Rattle.model.proofs.Slots.Machine.{nameOfSlot, SlotInstruction, insertSlot, deleteSlot, Item, given, byIndex, byName, DecoderTables}
+use Rattle.model.proofs.Slots.Machine.{fieldOf, fieldNamed}
+use Rattle.model.proofs.Slots.Messages.{EncoderSlot, freeSent, liveSent, deletedSent}
 
 -- ---- the decoder
 
 -- two stream lists as a delete carries them
-abbrev pub listsBy : StreamList → StreamList → Lists
-listsBy plain trailer = record { hl = plain .horizon; sl = plain .streams; ht = trailer .horizon; st = trailer .streams }
+abbrev pub listsBy : StreamList → StreamList → DeleteLists
+listsBy plain trailer = record {
+  plainHorizon = plain .horizon;
+  plainStreams = plain .streams;
+  trailerHorizon = trailer .horizon;
+  trailerStreams = trailer .streams;
+}
 
-abbrev pub listsOf : Delete → Lists
+abbrev pub listsOf : Delete → DeleteLists
 listsOf d = listsBy (d .plain) (d .trailer)
 
 -- a slot, from the entry held there and its delete
-abbrev pub slotAt : Option Held → Option Delete → DSlot
-slotAt none d = vac
-slotAt (some h) none = live (h .entry)
-slotAt (some h) (some d) = dying (h .entry) (listsOf d)
+abbrev pub slotAt : Option Held → Option Delete → DecoderSlot
+slotAt none d = emptySlot
+slotAt (some h) none = liveSlot (h .entry)
+slotAt (some h) (some d) = deletedSlot (h .entry) (listsOf d)
 
-unfoldable pub tabOf : Decoder → DTab
-tabOf D i = slotAt (look heldIndex i (D .entries)) (look deleteIndex i (D .deletes))
+unfoldable pub slotsOf : Decoder → DecoderSlots
+slotsOf D i = slotAt (look heldIndex i (D .entries)) (look deleteIndex i (D .deletes))
 
-unfoldable pub viewD : Decoder → Dec
-viewD D = record { tab = tabOf D; fin = D .finished; hold = heldSize (D .entries); limit = D .limit }
+unfoldable pub tablesOf : Decoder → DecoderTables
+tablesOf D = record { slots = slotsOf D; finished = D .finished; filled = heldSize (D .entries); limit = D .limit }
 
--- ---- instructions and blocks: a static entry is a content of its own
+-- ---- instructions and blocks: a static entry is no slot
 
-unfoldable pub sourceOf : Name → List ℕ → Src
-sourceOf (by-index i) value = pick (leb i 61) (own (record { name = entryAt i .name; value = value })) (via i value)
-sourceOf (by-bytes name) value = own (record { name = name; value = value })
+unfoldable pub sourceOf : Name → List ℕ → NameSource
+sourceOf (by-index i) value = pick (leb i 61) (ownName (record { name = entryAt i .name; value = value })) (nameOfSlot i value)
+sourceOf (by-bytes name) value = ownName (record { name = name; value = value })
 
 -- an acknowledgement never comes to the decoder
-unfoldable pub instrOf : Instruction → Instr
-instrOf (insert i name value) = ins i (sourceOf name value)
-instrOf (delete i plain trailer) = del i (listsBy plain trailer)
-instrOf (acknowledge i) = del i noLists
+unfoldable pub slotInstruction : Instruction → SlotInstruction
+slotInstruction (insert i name value) = insertSlot i (sourceOf name value)
+slotInstruction (delete i plain trailer) = deleteSlot i (listsBy plain trailer)
+slotInstruction (acknowledge i) = deleteSlot i noLists
 
-unfoldable pub itemOf : Representation → Item
-itemOf (indexed i) = pick (leb i 61) (lit (asIdx (entryAt i))) (idx i)
-itemOf (literal flag (by-index i) value) = pick (leb i 61) (lit (asNam flag value (entryAt i))) (nam i flag value)
-itemOf (literal flag (by-bytes name) value) = lit (record { flag = flag; name = name; value = value })
+unfoldable pub slotItem : Representation → Item
+slotItem (indexed i) = pick (leb i 61) (given (fieldOf (entryAt i))) (byIndex i)
+slotItem (literal flag (by-index i) value) = pick (leb i 61) (given (fieldNamed flag value (entryAt i))) (byName i flag value)
+slotItem (literal flag (by-bytes name) value) = given (record { flag = flag; name = name; value = value })
 
-unfoldable pub itemsOf : List Representation → List Item
-itemsOf [] = []
-itemsOf (r ∷ rs) = itemOf r ∷ itemsOf rs
+unfoldable pub slotItems : List Representation → List Item
+slotItems [] = []
+slotItems (r ∷ rs) = slotItem r ∷ slotItems rs
 
 -- ---- the encoder: its horizons are the lists that a delete would be written with
 
-abbrev pub listsSent : Sent → Lists
-listsSent e = record { hl = e .plain; sl = []; ht = e .trailer; st = [] }
+abbrev pub listsSent : Sent → DeleteLists
+listsSent e = record { plainHorizon = e .plain; plainStreams = []; trailerHorizon = e .trailer; trailerStreams = [] }
 
-abbrev pub slotSent : Bool → Entry → Lists → ESlot
-slotSent false c ls = elive c ls
-slotSent true c ls = egone c ls
+abbrev pub slotSent : Bool → Entry → DeleteLists → EncoderSlot
+slotSent false c ls = liveSent c ls
+slotSent true c ls = deletedSent c ls
 
-abbrev pub slotOfSent : Option Sent → ESlot
-slotOfSent none = efree
+abbrev pub slotOfSent : Option Sent → EncoderSlot
+slotOfSent none = freeSent
 slotOfSent (some e) = slotSent (e .deleted) (e .entry) (listsSent e)
 
-unfoldable pub tabE : List Sent → ℕ → ESlot
-tabE l i = slotOfSent (look sentIndex i l)
+unfoldable pub slotsSent : List Sent → ℕ → EncoderSlot
+slotsSent l i = slotOfSent (look sentIndex i l)

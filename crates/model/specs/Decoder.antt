@@ -7,18 +7,18 @@ use mathlib.Core.List.{List, [], _∷_, _++_}
 use lib.ListN.{length}
 use lib.Dec.{ltb, leb}
 use Rattle.memory.specs.Choice.{need}
-use Rattle.integers.specs.Answers.{Answer, waits, not-allowed, held, over-limit, vacant, under-deletion, not-under-deletion, out-of-turn, no-room, full}
+use Rattle.integers.specs.Answers.{waits, not-allowed, held, over-limit, vacant, under-deletion, not-under-deletion, out-of-turn, no-room, full}
 use Rattle.integers.specs.Integer.{largest}
 use Rattle.statics.specs.Table.{Entry}
 use Rattle.wire.specs.Name.{Name, indexed, literal}
-use Rattle.fields.specs.Form.{Field, listForm}
+use Rattle.fields.specs.Form.{listForm}
 use Rattle.instructions.specs.Instruction.{Instruction, insert, delete, acknowledge, FineIndex, FineList, instructionWire}
 use Rattle.blocks.specs.Representation.{Representation}
 use Rattle.blocks.specs.Meaning.{Slot, vacant as empty, holds, withStatics, BlockMeaning, list, blockMeaning}
 use Rattle.blocks.specs.Meaning as meaning
 use Rattle.model.specs.Table.{size, Account, Ascending, Distinct, look, put, cut, lowest, total}
 use Rattle.model.specs.Parts.{Part, partOf, Marks, noMarks, mark, markBoth, inTurn, Delete, openBelow, lowestOpen, streams, isReady}
-use Rattle.model.specs.Outcome.{Output, nothing, instruction, fields, Outcome, refuse, finish}
+use Rattle.model.specs.Outcome.{nothing, instruction, fields, Outcome, refuse, finish}
 
 -- an entry of the table
 pub record Held : Type 0 where

@@ -3,7 +3,7 @@ use Prim.Native.Nat.{ℕ, suc, _+_, _≤_, max}
 use mathlib.Core.Path.{_≡_}
 use mathlib.Core.Bool.{Bool, true, false, not, _&&_}
 use mathlib.Core.Option.{Option, none, some}
-use mathlib.Core.List.{List, [], _∷_, _++_, map}
+use mathlib.Core.List.{List, [], _∷_, map}
 use lib.ListN.{length}
 use lib.Dec.{ltb, leb, eqb}
 use Rattle.memory.specs.Choice.{pick, need}
@@ -17,13 +17,12 @@ use Rattle.statics.specs.Search.{findName, findBoth}
 use Rattle.statics.specs.declared.search.StaticFound.{StaticFound}
 use Rattle.statics.specs.declared.search.StaticFound.the-variants.{At, Nothing}
 use Rattle.fields.specs.Form.{Field}
-use Rattle.instructions.specs.Instruction.{Instruction, insert, delete, acknowledge, FineIndex, instructionWire}
+use Rattle.instructions.specs.Instruction.{Instruction, insert, delete, instructionWire}
 use Rattle.blocks.specs.Representation.{Representation, indexed, literal, blockWire}
 use Rattle.blocks.specs.Meaning.{blockReferences}
 use Rattle.model.specs.Table.{size, Account, Ascending, look, put, cut, lowest, vacantFrom, total}
 use Rattle.model.specs.Parts.{Part, nontrailer, trailer, partOf, Marks, noMarks, mark, inTurn, streams}
-use Rattle.model.specs.Outcome.{Output, nothing, instruction, block, Outcome, refuse, finish}
-use Rattle.model.specs.Decoder.{isSome}
+use Rattle.model.specs.Outcome.{nothing, instruction, block, Outcome, refuse, finish}
 
 -- an entry: for each kind of block the horizon that its delete would be written with, and whether it is under deletion
 pub record Sent : Type 0 where

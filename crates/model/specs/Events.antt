@@ -1,6 +1,5 @@
 -- Both ends of a link: lists of calls, and what happened in them.
-use Prim.Native.Nat.{ℕ, suc, _+_}
-use mathlib.Core.Bool.{Bool, true, false, _&&_}
+use Prim.Native.Nat.{ℕ}
 use mathlib.Core.List.{List, [], _∷_}
 use lib.Dec.{eqb}
 use Rattle.memory.specs.Choice.{pick}
@@ -9,7 +8,7 @@ use Rattle.fields.specs.Form.{Field}
 use Rattle.instructions.specs.Instruction.{Instruction, insert, delete, acknowledge}
 use Rattle.blocks.specs.Representation.{Representation}
 use Rattle.model.specs.Outcome.{Output, nothing, instruction, block, fields, Outcome}
-use Rattle.model.specs.Decoder.{Decoder, startDecoder, readInstruction, decodeBlock, endStream, collectEntry, enquireHold}
+use Rattle.model.specs.Decoder.{Decoder, startDecoder, readInstruction, decodeBlock, endStream, collectEntry}
 use Rattle.model.specs.Encoder.{Encoder, startEncoder}
 use Rattle.model.specs.EncoderCalls.{EncoderCall, encoderCall}
 use Rattle.model.specs.EncoderCalls as at-encoder

@@ -1,15 +1,11 @@
 -- Histories: what a table holds, and what a delete's horizons are, by the calls that were done since the start.
 use mathlib.Core.Path.{_≡_}
-use Prim.Native.Nat.{ℕ, zero, suc, _+_, _≤_, max}
-use mathlib.Core.Bool.{Bool, true, false}
+use Prim.Native.Nat.{ℕ, suc, _+_, max}
 use mathlib.Core.Option.{Option, none, some}
 use mathlib.Core.List.{List, [], _∷_}
-use lib.ListN.{length}
 use lib.Dec.{eqb}
 use Rattle.memory.specs.Choice.{pick}
-use Rattle.statics.specs.Table.{Entry}
 use Rattle.instructions.specs.Instruction.{Instruction, insert, delete, acknowledge}
-use Rattle.blocks.specs.Representation.{Representation}
 use Rattle.blocks.specs.Meaning.{blockReferences}
 use Rattle.model.specs.Table.{size, look}
 use Rattle.model.specs.Parts.{Part, nontrailer, trailer, partNumber}

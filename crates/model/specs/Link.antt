@@ -15,31 +15,9 @@ use Rattle.blocks.specs.Representation.{Representation}
 use Rattle.blocks.specs.Meaning.{Refers}
 use Rattle.model.specs.Table.{look}
 use Rattle.model.specs.Outcome.{Output, fields, startAnswer}
-use Rattle.model.specs.Decoder.{Decoder, heldIndex, isSome}
+use Rattle.model.specs.Decoder.{heldIndex, isSome}
 use Rattle.model.specs.EncoderCalls as at-encoder
-use Rattle.model.specs.Events.{
-  LinkCall,
-  encoder,
-  read,
-  offer,
-  ended,
-  collect,
-  hold,
-  unread,
-  Event,
-  said,
-  wrote,
-  acknowledged,
-  heard,
-  offered,
-  freed,
-  told,
-  quiet,
-  Ends,
-  events,
-  endsAfter,
-  fresh,
-}
+use Rattle.model.specs.Events.{LinkCall, encoder, read, offer, ended, collect, hold, unread, Event, said, wrote, acknowledged, heard, offered, freed, told, quiet, events, endsAfter, fresh}
 use Rattle.model.specs.Events as link
 
 -- the element at a place, from 0

@@ -2,12 +2,12 @@
 use mathlib.Core.Path.{_≡_}
 use mathlib.Core.Logic.{_↔_}
 use Prim.Native.Nat.{ℕ, _≤_, _<_}
-use mathlib.Core.Bool.{Bool, true, false}
-use mathlib.Core.Option.{Option, none, some}
+use mathlib.Core.Bool.{true, false}
+use mathlib.Core.Option.{none, some}
 use mathlib.Core.List.{List, [], _∷_}
 use lib.ListN.{length}
 use Rattle.integers.specs.Answers.{no-room}
-use Rattle.instructions.specs.Instruction.{Instruction, acknowledge, Manages, Fine, instructionWire}
+use Rattle.instructions.specs.Instruction.{acknowledge, Manages, Fine, instructionWire}
 use Rattle.blocks.specs.Representation.{Representation, AllFine}
 use Rattle.blocks.specs.Meaning.{Refers}
 use Rattle.model.specs.Parts.{Part, partNumber, Delete, namesPart}

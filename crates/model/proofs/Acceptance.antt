@@ -1,0 +1,215 @@
+-- Document 01's rules as computed facts, its sentence over each. A definition that breaks a rule computes to something else here,
+-- whatever shape the proofs of the laws have. AcceptanceCalls has the calls. (Modules are checked in order of their names, what they use
+-- first: so the first error that such a definition meets stands here.)
+use mathlib.Core.Path.{_≡_, refl}
+use mathlib.Core.List.{List, [], _∷_}
+use Rattle.integers.specs.Answers.{done, refusal}
+use Rattle.wire.specs.Name.{indexed as by-index, literal as by-bytes}
+use Rattle.wire.specs.StreamList.{StreamList}
+use Rattle.statics.specs.Ascii.{bytes}
+use Rattle.fields.specs.Form.{Field}
+use Rattle.instructions.specs.Instruction.{insert, delete}
+use Rattle.blocks.specs.Representation.{Representation, indexed, literal}
+use Rattle.model.specs.Outcome.{nothing, instruction, fields}
+use Rattle.model.specs.Outcome as outcome
+use Rattle.model.specs.DecoderCalls.{read, block, ended, collect, hold}
+use Rattle.model.specs.Encoder.{emptyList}
+use Rattle.model.specs.EncoderCalls as at-encoder
+use Rattle.model.proofs.AcceptanceCalls.{
+  decoderAnswers,
+  decoderOutputs,
+  freed,
+  encoderAnswers,
+  encoderOutputs,
+  field,
+  insert-h9,
+  deleteWith,
+  delete-plain,
+  delete-trailer,
+  past,
+  past-trailer,
+  refers-62,
+  put-h9,
+  delete-62,
+  acknowledged-62,
+  says-h,
+  said-insert,
+  said-delete,
+  wrote,
+}
+
+-- ---- blocks at the decoder
+
+-- "A waiting block is kept by the host and offered again." It waits for 62, changes nothing, and is done once 62 is there.
+pub waits-then-done :
+    decoderAnswers 68 (refers-62 ∷ insert-h9 62 ∷ refers-62 ∷ []) ≡ record { number = 1; first = 62; second = 0 } ∷ done 6 0 ∷ done 5 0 ∷ []
+unfolding decoderAnswers
+waits-then-done = refl
+
+-- "A non-trailer block answered "done" finishes its part .. the same for the trailer." "Out of turn: a part already finished .."
+pub done-once :
+    decoderAnswers 68 (past-trailer 0 ∷ past 0 ∷ past 0 ∷ past-trailer 0 ∷ past-trailer 0 ∷ []) ≡
+    refusal 11 ∷ done 0 0 ∷ refusal 11 ∷ done 0 0 ∷ refusal 11 ∷ []
+unfolding decoderAnswers
+done-once = refl
+
+-- "The host may say that a stream has ended or was reset: both parts are finished, and saying it again is fine."
+pub ended-both :
+    decoderAnswers 68 (past 0 ∷ ended 0 ∷ past-trailer 0 ∷ ended 0 ∷ ended 1 ∷ past 1 ∷ []) ≡
+    done 0 0 ∷ done 0 0 ∷ refusal 11 ∷ done 0 0 ∷ done 0 0 ∷ refusal 11 ∷ []
+unfolding decoderAnswers
+ended-both = refl
+
+-- ---- a block carries its fields
+
+-- 5: "After 4, block BE 82 gives the list, whole". The encoder writes that block for these two fields, and the decoder gives them back.
+abbrev two-fields : List Field
+two-fields = field (bytes "h") (bytes "9") ∷ field (bytes ":method") (bytes "GET") ∷ []
+
+abbrev BE-82 : List Representation
+BE-82 = indexed 62 ∷ indexed 2 ∷ []
+
+pub both-written : encoderOutputs 68 (put-h9 ∷ at-encoder.block 0 0 two-fields 16 ∷ []) ≡ said-insert ∷ outcome.Output.block BE-82 ∷ []
+unfolding encoderOutputs
+both-written = refl
+
+pub both-given :
+    (decoderOutputs 68 (insert-h9 62 ∷ block 0 0 BE-82 64 ∷ []) ≡ nothing ∷ fields two-fields ∷ []) ×
+    (decoderAnswers 68 (insert-h9 62 ∷ block 0 0 BE-82 64 ∷ []) ≡ done 6 0 ∷ done 18 0 ∷ [])
+unfolding decoderOutputs decoderAnswers
+both-given = (refl, refl)
+
+-- ---- ready, and freed by a collect
+
+-- 10: "After 4, with streams 0 to 4 past their non-trailer part, the entry is ready as soon as 3E 05 00 00 00 is read." So the list
+-- names the streams below its horizon, 5, and not the horizon itself. With stream 4 unfinished it is not ready.
+pub ready-below-horizon :
+    (freed 68 (insert-h9 62 ∷ past 0 ∷ past 1 ∷ past 2 ∷ past 3 ∷ past 4 ∷ delete-plain 5 ∷ collect 16 ∷ []) ≡ 62 ∷ []) ×
+    (freed 68 (insert-h9 62 ∷ past 0 ∷ past 1 ∷ past 2 ∷ past 3 ∷ delete-plain 5 ∷ collect 16 ∷ []) ≡ [])
+unfolding freed
+ready-below-horizon = (refl, refl)
+
+-- "It is ready when every part its two lists name is finished": the second list's are trailer parts.
+pub ready-trailer :
+    (freed 68 (insert-h9 62 ∷ delete-trailer 1 ∷ past 0 ∷ collect 16 ∷ []) ≡ []) ×
+    (freed 68 (insert-h9 62 ∷ delete-trailer 1 ∷ past 0 ∷ past-trailer 0 ∷ collect 16 ∷ []) ≡ 62 ∷ [])
+unfolding freed
+ready-trailer = (refl, refl)
+
+-- "A collect call frees the ready entry of lowest index and writes its Delete-Ack": each time, also where an index is used again.
+pub freed-again :
+    freed 68 (insert-h9 62 ∷ delete-plain 0 ∷ collect 16 ∷ insert-h9 62 ∷ delete-plain 0 ∷ collect 16 ∷ []) ≡ 62 ∷ 62 ∷ []
+unfolding freed
+freed-again = refl
+
+pub freed-lowest :
+    freed 68 (insert-h9 62 ∷ insert-h9 63 ∷ read (delete 63 (emptyList 0) (emptyList 0)) 6 ∷ delete-plain 0 ∷ collect 16 ∷ collect 16 ∷ []) ≡
+    62 ∷ 63 ∷ []
+unfolding freed
+freed-lowest = refl
+
+-- a delete goes with its entry: the next entry at that index is not freed before a delete of its own, which is taken
+pub deleted-anew :
+    decoderAnswers 68 (insert-h9 62 ∷ delete-plain 0 ∷ collect 16 ∷ insert-h9 62 ∷ collect 16 ∷ delete-plain 0 ∷ collect 16 ∷ []) ≡
+    done 6 0 ∷ done 5 0 ∷ done 1 0 ∷ done 6 0 ∷ done 0 0 ∷ done 5 0 ∷ done 1 0 ∷ []
+unfolding decoderAnswers
+deleted-anew = refl
+
+-- "with none ready it is done, writes 0 bytes and changes nothing": no entry under deletion, one that is not ready, and it still serves
+pub none-freed :
+    decoderAnswers 68 (insert-h9 62 ∷ collect 16 ∷ delete-plain 1 ∷ collect 16 ∷ refers-62 ∷ collect 16 ∷ []) ≡
+    done 6 0 ∷ done 0 0 ∷ done 5 0 ∷ done 0 0 ∷ done 5 0 ∷ done 1 0 ∷ []
+unfolding decoderAnswers
+none-freed = refl
+
+-- ---- the hold enquiry
+
+-- "A hold enquiry about an entry under deletion tells how many named parts are unfinished and the lowest stream having one (4,096 if none)."
+pub hold-told :
+    decoderAnswers 68 (insert-h9 62 ∷ delete-plain 5 ∷ hold 62 ∷ past 0 ∷ past 1 ∷ hold 62 ∷ past 2 ∷ past 3 ∷ past 4 ∷ hold 62 ∷ []) ≡
+    done 6 0 ∷ done 5 0 ∷ done 5 0 ∷ done 0 0 ∷ done 0 0 ∷ done 3 2 ∷ done 0 0 ∷ done 0 0 ∷ done 0 0 ∷ done 0 4096 ∷ []
+unfolding decoderAnswers
+hold-told = refl
+
+-- 8: "List 03 02 01 03 names 0, 1, 2, 4 and 7, not 3." Of these 0 is the lowest, past 0 to 2 it is 4, and past 3 and 4 it is 7.
+abbrev list-3-4-7 : StreamList
+list-3-4-7 = record { horizon = 3; streams = 4 ∷ 7 ∷ [] }
+
+pub listed-named :
+    decoderAnswers 68 (insert-h9 62 ∷ deleteWith list-3-4-7 (emptyList 0) ∷ hold 62 ∷ past 0 ∷ past 1 ∷ past 2 ∷ hold 62 ∷ past 3 ∷ past 4 ∷ hold 62 ∷ []) ≡
+    done 6 0 ∷ done 5 0 ∷ done 5 0 ∷ done 0 0 ∷ done 0 0 ∷ done 0 0 ∷ done 2 4 ∷ done 0 0 ∷ done 0 0 ∷ done 1 7 ∷ []
+unfolding decoderAnswers
+listed-named = refl
+
+-- ---- the encoder's choice
+
+-- "the lowest such dynamic index not under deletion, else a literal", and for a name "the lowest dynamic one not under deletion, else by string"
+pub lowest-chosen :
+    encoderOutputs 68 (put-h9 ∷ put-h9 ∷ says-h 0 0 (bytes "9") ∷ says-h 1 0 (bytes "8") ∷ []) ≡
+    said-insert ∷ instruction (insert 63 (by-index 62) (bytes "9")) ∷ wrote (indexed 62) ∷ wrote (literal 0 (by-index 62) (bytes "8")) ∷ []
+unfolding encoderOutputs
+lowest-chosen = refl
+
+pub deleted-not-chosen :
+    encoderOutputs 68 (put-h9 ∷ delete-62 ∷ says-h 0 0 (bytes "9") ∷ says-h 1 0 (bytes "8") ∷ []) ≡
+    said-insert ∷ said-delete 0 0 ∷ wrote (literal 0 (by-bytes (bytes "h")) (bytes "9")) ∷ wrote (literal 0 (by-bytes (bytes "h")) (bytes "8")) ∷ []
+unfolding encoderOutputs
+deleted-not-chosen = refl
+
+-- ---- the encoder's delete
+
+-- "the lowest from 62 that is not held". "The entry is held until its acknowledgement is read": 62 is not given back by the delete.
+pub slot-kept :
+    encoderAnswers 102 (put-h9 ∷ delete-62 ∷ put-h9 ∷ acknowledged-62 ∷ put-h9 ∷ []) ≡ done 6 62 ∷ done 5 0 ∷ done 6 63 ∷ done 1 0 ∷ done 4 62 ∷ []
+unfolding encoderAnswers
+slot-kept = refl
+
+-- "A delete is written with empty lists. Each horizon is one more than the highest stream whose block of that kind refers to the entry,
+-- by index or for its name, or 0 if none does."
+pub horizon-none : encoderOutputs 68 (put-h9 ∷ delete-62 ∷ []) ≡ said-insert ∷ said-delete 0 0 ∷ []
+unfolding encoderOutputs
+horizon-none = refl
+
+pub horizon-by-index :
+    encoderOutputs 68 (put-h9 ∷ says-h 5 0 (bytes "9") ∷ delete-62 ∷ []) ≡ said-insert ∷ wrote (indexed 62) ∷ said-delete 6 0 ∷ []
+unfolding encoderOutputs
+horizon-by-index = refl
+
+-- the later block refers to the entry for its name alone
+pub horizon-for-name :
+    encoderOutputs 68 (put-h9 ∷ says-h 5 0 (bytes "9") ∷ says-h 7 0 (bytes "8") ∷ delete-62 ∷ []) ≡
+    said-insert ∷ wrote (indexed 62) ∷ wrote (literal 0 (by-index 62) (bytes "8")) ∷ said-delete 8 0 ∷ []
+unfolding encoderOutputs
+horizon-for-name = refl
+
+-- a trailer counts in the second list, and a lower stream after a higher one changes nothing
+pub horizon-trailer :
+    encoderOutputs 68 (put-h9 ∷ says-h 5 0 (bytes "9") ∷ says-h 2 0 (bytes "9") ∷ says-h 2 1 (bytes "9") ∷ delete-62 ∷ []) ≡
+    said-insert ∷ wrote (indexed 62) ∷ wrote (indexed 62) ∷ wrote (indexed 62) ∷ said-delete 6 3 ∷ []
+unfolding encoderOutputs
+horizon-trailer = refl
+
+-- ---- the held size
+
+-- 9: "Limit 68 takes two entries like 4, a third gives 7; limit 67 refuses the second."
+pub limit-kept :
+    (decoderAnswers 68 (insert-h9 62 ∷ insert-h9 63 ∷ insert-h9 64 ∷ []) ≡ done 6 0 ∷ done 6 0 ∷ refusal 7 ∷ []) ×
+    (decoderAnswers 67 (insert-h9 62 ∷ insert-h9 63 ∷ []) ≡ done 6 0 ∷ refusal 7 ∷ []) ×
+    (encoderAnswers 68 (put-h9 ∷ put-h9 ∷ put-h9 ∷ []) ≡ done 6 62 ∷ done 4 63 ∷ refusal 7 ∷ []) ×
+    (encoderAnswers 67 (put-h9 ∷ put-h9 ∷ []) ≡ done 6 62 ∷ refusal 7 ∷ [])
+unfolding decoderAnswers encoderAnswers
+limit-kept = (refl, refl, refl, refl)
+
+-- "The held size is the sum over all entries held, those under deletion included." After the collect there is room again.
+pub deleted-counted-decoder :
+    decoderAnswers 68 (insert-h9 62 ∷ insert-h9 63 ∷ delete-plain 0 ∷ insert-h9 64 ∷ collect 16 ∷ insert-h9 64 ∷ []) ≡
+    done 6 0 ∷ done 6 0 ∷ done 5 0 ∷ refusal 7 ∷ done 1 0 ∷ done 6 0 ∷ []
+unfolding decoderAnswers
+deleted-counted-decoder = refl
+
+-- the same at the encoder, where the acknowledgement frees
+pub deleted-counted-encoder :
+    encoderAnswers 68 (put-h9 ∷ put-h9 ∷ delete-62 ∷ put-h9 ∷ acknowledged-62 ∷ put-h9 ∷ []) ≡
+    done 6 62 ∷ done 4 63 ∷ done 5 0 ∷ refusal 7 ∷ done 1 0 ∷ done 4 62 ∷ []
+unfolding encoderAnswers
+deleted-counted-encoder = refl

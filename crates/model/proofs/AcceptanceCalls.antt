@@ -1,0 +1,120 @@
+-- What short lists of calls at an end that starts fresh answer, write and free, as definitions that compute; and the calls that Acceptance makes.
+use Prim.Native.Nat.{ℕ}
+use mathlib.Core.List.{List, [], _∷_}
+use Rattle.integers.specs.Answers.{Answer}
+use Rattle.wire.specs.Name.{literal as by-bytes}
+use Rattle.wire.specs.StreamList.{StreamList}
+use Rattle.statics.specs.Ascii.{bytes}
+use Rattle.fields.specs.Form.{Field}
+use Rattle.instructions.specs.Instruction.{insert, delete, acknowledge}
+use Rattle.blocks.specs.Representation.{Representation, indexed}
+use Rattle.model.specs.Parts.{lowestOpen}
+use Rattle.model.specs.Outcome.{Output, nothing, instruction, fields}
+use Rattle.model.specs.Outcome as outcome
+use Rattle.model.specs.Decoder.{Decoder, startDecoder, holdOf, enquireHold}
+use Rattle.model.specs.DecoderCalls.{DecoderCall, read, block, decoderCall}
+use Rattle.model.specs.Encoder.{Encoder, startEncoder, emptyList}
+use Rattle.model.specs.EncoderCalls.{EncoderCall, encoderCall}
+use Rattle.model.specs.EncoderCalls as at-encoder
+use Rattle.model.proofs.Running.{run}
+
+-- ---- what is computed: of each call in turn the answer, and the output
+abbrev pub decoderAnswersFrom : Decoder → List DecoderCall → List Answer
+decoderAnswersFrom D [] = []
+decoderAnswersFrom D (c ∷ cs) = decoderCall D c .answer ∷ decoderAnswersFrom (decoderCall D c .state) cs
+
+abbrev pub decoderOutputsFrom : Decoder → List DecoderCall → List Output
+decoderOutputsFrom D [] = []
+decoderOutputsFrom D (c ∷ cs) = decoderCall D c .output ∷ decoderOutputsFrom (decoderCall D c .state) cs
+
+abbrev pub encoderAnswersFrom : Encoder → List EncoderCall → List Answer
+encoderAnswersFrom E [] = []
+encoderAnswersFrom E (c ∷ cs) = encoderCall E c .answer ∷ encoderAnswersFrom (encoderCall E c .state) cs
+
+abbrev pub encoderOutputsFrom : Encoder → List EncoderCall → List Output
+encoderOutputsFrom E [] = []
+encoderOutputsFrom E (c ∷ cs) = encoderCall E c .output ∷ encoderOutputsFrom (encoderCall E c .state) cs
+
+-- the indexes that are acknowledged, so freed
+abbrev pub acknowledged : List Output → List ℕ
+acknowledged [] = []
+acknowledged (instruction (acknowledge i) ∷ os) = i ∷ acknowledged os
+acknowledged (instruction (insert i name value) ∷ os) = acknowledged os
+acknowledged (instruction (delete i plain last) ∷ os) = acknowledged os
+acknowledged (nothing ∷ os) = acknowledged os
+acknowledged (outcome.Output.block rs ∷ os) = acknowledged os
+acknowledged (fields fs ∷ os) = acknowledged os
+
+-- at a decoder with this limit
+unfoldable pub decoderAnswers : ℕ → List DecoderCall → List Answer
+unfolding run decoderCall enquireHold holdOf lowestOpen
+decoderAnswers limit cs = decoderAnswersFrom (startDecoder limit) cs
+
+unfoldable pub decoderOutputs : ℕ → List DecoderCall → List Output
+unfolding run decoderCall
+decoderOutputs limit cs = decoderOutputsFrom (startDecoder limit) cs
+
+unfoldable pub freed : ℕ → List DecoderCall → List ℕ
+unfolding decoderOutputs
+freed limit cs = acknowledged (decoderOutputs limit cs)
+
+-- at an encoder with this limit
+unfoldable pub encoderAnswers : ℕ → List EncoderCall → List Answer
+unfolding run
+encoderAnswers limit cs = encoderAnswersFrom (startEncoder limit) cs
+
+unfoldable pub encoderOutputs : ℕ → List EncoderCall → List Output
+unfolding run
+encoderOutputs limit cs = encoderOutputsFrom (startEncoder limit) cs
+
+-- ---- the calls that are made
+abbrev pub field : List ℕ → List ℕ → Field
+field name value = record { flag = 0; name = name; value = value }
+
+-- 4: "BE 00 01 68 01 39 inserts h = 9 at 62, size 34."
+abbrev pub insert-h9 : ℕ → DecoderCall
+insert-h9 i = read (insert i (by-bytes (bytes "h")) (bytes "9")) 6
+
+abbrev pub deleteWith : StreamList → StreamList → DecoderCall
+deleteWith plain last = read (delete 62 plain last) 5
+
+-- with horizon n as first or as second list
+abbrev pub delete-plain : ℕ → DecoderCall
+delete-plain n = deleteWith (emptyList n) (emptyList 0)
+
+abbrev pub delete-trailer : ℕ → DecoderCall
+delete-trailer n = deleteWith (emptyList 0) (emptyList n)
+
+-- "An empty block is a block with no fields": a stream gets past its non-trailer part, and past its trailer part
+abbrev pub past : ℕ → DecoderCall
+past s = block s 0 [] 16
+
+abbrev pub past-trailer : ℕ → DecoderCall
+past-trailer s = block s 1 [] 16
+
+-- a block that refers to 62, whose field takes five bytes
+abbrev pub refers-62 : DecoderCall
+refers-62 = block 0 0 (indexed 62 ∷ []) 16
+
+-- the encoder's insert of h = 9, delete of 62, acknowledgement of 62, and blocks of one field h
+abbrev pub put-h9 : EncoderCall
+put-h9 = at-encoder.insert (bytes "h") (bytes "9") 16
+
+abbrev pub delete-62 : EncoderCall
+delete-62 = at-encoder.delete 62 16
+
+abbrev pub acknowledged-62 : EncoderCall
+acknowledged-62 = at-encoder.acknowledged 62 1
+
+abbrev pub says-h : ℕ → ℕ → List ℕ → EncoderCall
+says-h s part value = at-encoder.block s part (field (bytes "h") value ∷ []) 16
+
+-- what the encoder writes for them
+abbrev pub said-insert : Output
+said-insert = instruction (insert 62 (by-bytes (bytes "h")) (bytes "9"))
+
+abbrev pub said-delete : ℕ → ℕ → Output
+said-delete plain last = instruction (delete 62 (emptyList plain) (emptyList last))
+
+abbrev pub wrote : Representation → Output
+wrote r = outcome.Output.block (r ∷ [])

@@ -1,0 +1,56 @@
+-- The encoder's inserts and deletes as notes, which keep the entry that the encoder means: on the wire a note is the instruction written.
+-- By the cases of the choice of name.
+use mathlib.Core.Path.{_≡_, refl, sym, ap, _∙_}
+use Prim.Native.Nat.{ℕ, _≤_, _<_}
+use mathlib.Core.List.{List}
+use lib.Dec.{leb}
+use borrow.Author.Tests.{le-leb, lt-leb}
+use Rattle.memory.specs.Choice.{pick}
+use Rattle.memory.proofs.Order.{pick-true, pick-false}
+use Rattle.wire.specs.Name.{Name, indexed as by-index, literal as by-bytes}
+use Rattle.statics.specs.Table.{Entry}
+use Rattle.instructions.specs.Instruction.{insert}
+use Rattle.model.specs.Table.{Ascending}
+use Rattle.model.specs.Encoder.{Sent, sentIndex, chooseName, deleteOfSent}
+use Rattle.model.proofs.Slots.Machine.{ownName, insertSlot}
+use Rattle.model.proofs.Slots.Messages.{Note, noteInsert, noteNamed, noteDelete, onWire}
+use Rattle.model.proofs.View.{listsSent, sourceOf, slotInstruction}
+use Rattle.model.proofs.EncoderItems.{found-high, Chosen, by-string, by-static, by-entry, name-chosen}
+
+-- the insert of c at i under this name
+unfoldable pub noteBy : ℕ → Entry → Name → Note
+noteBy i c (by-bytes name) = noteInsert i c
+noteBy i c (by-index j) = pick (leb j 61) (noteInsert i c) (noteNamed i j c)
+
+abbrev pub noteOf : List Sent → ℕ → List ℕ → List ℕ → Note
+noteOf l i name value = noteBy i (record { name = name; value = value }) (chooseName l name)
+
+pub note-static : (i j : ℕ) (c : Entry) → j ≤ 61 → noteBy i c (by-index j) ≡ noteInsert i c
+unfolding noteBy
+note-static i j c h = pick-true (leb j 61) (noteInsert i c) (noteNamed i j c) (le-leb j 61 h)
+
+pub note-dynamic : (i j : ℕ) (c : Entry) → 61 < j → noteBy i c (by-index j) ≡ noteNamed i j c
+unfolding noteBy
+note-dynamic i j c h = pick-false (leb j 61) (noteInsert i c) (noteNamed i j c) (lt-leb j 61 h)
+
+-- on the wire it is what the note says
+pub note-wire : (l : List Sent) → Ascending sentIndex 62 l → (i : ℕ) (name value : List ℕ)
+    → slotInstruction (insert i (chooseName l name) value) ≡ onWire (noteOf l i name value)
+unfolding slotInstruction sourceOf noteBy
+note-wire l a i name value = go (chooseName l name) (name-chosen l a name)
+  where
+    go : (n : Name) → Chosen l a name n → insertSlot i (sourceOf n value) ≡ onWire (noteBy i (record { name = name; value = value }) n)
+    go n (by-string q) = rw q refl
+    go n (by-static j low same q) =
+        rw q
+        (ap (insertSlot i) (pick-true (leb j 61) _ _ (le-leb j 61 low)) ∙ (λ k. insertSlot i (ownName (record { name = same k; value = value })))
+        ∙ ap onWire (sym (note-static i j (record { name = name; value = value }) low)))
+    go n (by-entry e found same lives q) =
+        let high = found-high l a (e .index) e found in
+        rw q
+        (ap (insertSlot i) (pick-false (leb (e .index) 61) _ _ (lt-leb (e .index) 61 high))
+        ∙ ap onWire (sym (note-dynamic i (e .index) (record { name = name; value = value }) high)))
+
+pub delete-wire : (e : Sent) → slotInstruction (deleteOfSent e) ≡ onWire (noteDelete (e .index) (listsSent e))
+unfolding slotInstruction
+delete-wire e = refl
