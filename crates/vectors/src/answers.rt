@@ -1,13 +1,5 @@
 // The answer to one vector.
 ghost use Prim.Native.Nat.{ℕ, _≤_};
-use crate::show::bytes;
-use crate::show::list;
-use crate::show::name;
-use crate::show::next;
-use crate::show::number;
-use crate::show::refusal;
-use crate::show::string;
-use crate::show::words;
 use blocks::read::RepresentationPlace;
 use blocks::read::RepresentationRead;
 use blocks::read::check_block;
@@ -19,6 +11,14 @@ use instructions::read::read_for_decoder;
 use instructions::read::read_for_encoder;
 use integers::integer::IntRead;
 use integers::integer::WireInt;
+use show::bytes;
+use show::list;
+use show::name;
+use show::next;
+use show::number;
+use show::refusal;
+use show::string;
+use show::words;
 use wire::stream_list::ListRead;
 use wire::stream_list::read_list;
 use wire::text::NAME_LIMIT;

@@ -2,7 +2,6 @@
 // a space, a space, and bytes in hexadecimal; a line that begins with '#' is a comment. `stdin` holds the vectors, and `stdout` what
 // must be written, as the papers have it.
 mod answers;
-mod show;
 
 use answers::answer;
 use hex::line_end;

@@ -4,8 +4,8 @@ use Prim.Native.Nat.{_-_, _≤_}
 use native.Mathlib.Omega.{arith}
 use borrow.Author.Needs.{needs}
 use Rattle.wire.proofs.ListBounds.{delta-good}
-use Rattle.vectors.proofs.show.streams.Statement.{statement}
-use Rattle.vectors.proofs.show.streams.Tie as tie
+use Rattle.show.proofs.streams.Statement.{statement}
+use Rattle.show.proofs.streams.Tie as tie
 
 abbrev Inv-loop : tie.InvT-loop
 Inv-loop s last₀ at₀ count t9 counter₀ last at counter = last ≤ 4096

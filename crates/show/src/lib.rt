@@ -1,4 +1,4 @@
-// What was read, written out.
+// What was read, written to the standard output: what the programs share. No library that a host links uses it.
 ghost use Prim.Native.Nat.{ℕ, _≤_};
 use wire::name::NamePlace;
 use wire::stream_list::DeltaRead;

@@ -4,8 +4,8 @@ use native.Mathlib.Omega.{arith}
 use lib.Seq.{length-take-le}
 use borrow.Author.Needs.{needs}
 use borrow.Author.Tests.{ltb-false}
-use Rattle.vectors.proofs.show.string.Statement.{statement}
-use Rattle.vectors.proofs.show.string.Tie as tie
+use Rattle.show.proofs.string.Statement.{statement}
+use Rattle.show.proofs.string.Tie as tie
 
 words-requires : tie.Need-words-requires
 words-requires c κs = search needs
