@@ -5,3 +5,4 @@ pub mod Places
 pub mod Moving
 pub mod Numbers
 pub mod Sameness
+pub mod Zeros

@@ -17,3 +17,8 @@ same [] [] = true
 same [] (y ∷ ys) = false
 same (x ∷ xs) [] = false
 same (x ∷ xs) (y ∷ ys) = pick (eqb x y) (same xs ys) false
+
+-- are the n elements of l from the place at on all 0?
+unfoldable pub zerosAt : ℕ → List ℕ → ℕ → Bool
+zerosAt zero l at = true
+zerosAt (suc n) l at = pick (eqb (getD l at 0) 0) (zerosAt n l (at + 1)) false

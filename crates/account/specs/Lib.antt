@@ -1,0 +1,2 @@
+-- The record of a table.
+pub mod Account

@@ -1,0 +1,2 @@
+-- Marks of streams in words.
+pub mod Marks
