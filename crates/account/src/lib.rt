@@ -1,9 +1,7 @@
 // The record that each table keeps: limit, held size and entry count.
 ghost use mathlib.Core.Path.{_≡_};
 ghost use Prim.Native.Nat.{ℕ, _+_, _-_, _≤_, _<_};
-ghost use lib.Dec.{leb};
 ghost use Rattle.account.specs.Account.{fits, charged, released};
-
 pub struct Account {
     pub limit: u16,
     pub held: u16,

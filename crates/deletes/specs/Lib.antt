@@ -1,0 +1,2 @@
+-- Deletes and references in memory.
+pub mod Deletes

@@ -1,0 +1,4 @@
+-- The laws of `hold`: plain values, for the functions' proofs.
+pub mod Naming
+pub mod Opening
+pub mod Reading

@@ -1,0 +1,2 @@
+-- What holds an entry under deletion.
+pub mod Hold

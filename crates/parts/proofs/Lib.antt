@@ -1,0 +1,2 @@
+-- The laws of `parts`: plain values, for the functions' proofs.
+pub mod Turns

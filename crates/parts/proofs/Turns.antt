@@ -1,0 +1,84 @@
+-- Which part is in turn, by the marks in memory: one law for each way through the test.
+-- By the tests of stream and part number: a set bit is a part that is not finished.
+use mathlib.Core.Path.{_≡_, refl, ap, ap₂, _∙_}
+use Prim.Native.Nat.{ℕ, _≤_, _<_}
+use mathlib.Core.Bool.{Bool, true, false, not, _&&_}
+use mathlib.Core.Option.{Option, none, some}
+use mathlib.Core.List.{List}
+use borrow.Author.Tests.{lt-ltb, le-ltb, eq-eqb, ne-eqb}
+use Rattle.memory.proofs.Order.{pick-true, pick-false}
+use Rattle.marks.specs.Marks.{isSet}
+use Rattle.model.specs.Parts.{Part, nontrailer, trailer, Marks, partOf, inTurn, streams}
+use Rattle.state.specs.Layout.{marksPlace}
+use Rattle.state.specs.Front.{marksOf}
+use Rattle.parts.specs.Turn.{partTurn}
+
+-- ---- part numbers
+
+plain-part : (n : ℕ) → n ≡ 0 → partOf n ≡ some nontrailer
+unfolding partOf
+plain-part n e = pick-true _ _ _ (eq-eqb n 0 e)
+
+trailer-part : (n : ℕ) → n ≡ 1 → partOf n ≡ some trailer
+unfolding partOf
+trailer-part n e = ap partOf e
+
+no-part : (n : ℕ) → (n ≡ 0 → ⊥) → (n ≡ 1 → ⊥) → partOf n ≡ none
+unfolding partOf
+no-part n z o = pick-false _ _ _ (ne-eqb n 0 z) ∙ pick-false _ _ _ (ne-eqb n 1 o)
+
+-- ---- the marks in memory
+
+twice : (b : Bool) → not (not b) ≡ b
+twice true = refl
+twice false = refl
+
+-- "Message streams are numbered 0 to 4,095"
+above : (marks : Marks) (s : ℕ) (p : Option Part) → streams ≤ s → partTurn marks s p ≡ false
+unfolding partTurn
+above marks s none h = refl
+above marks s (some p) h = ap (λ (b : Bool). b && inTurn marks s p) (le-ltb s streams h)
+
+below : (marks : Marks) (s : ℕ) (p : Part) → s < streams → partTurn marks s (some p) ≡ inTurn marks s p
+unfolding partTurn
+below marks s p h = ap (λ (b : Bool). b && inTurn marks s p) (lt-ltb s streams h)
+
+module _ (m : List ℕ) (s : ℕ) (fits : s < streams) where
+  pub marked : (p : Part) → marksOf m s p ≡ not (isSet m (marksPlace p) s)
+  unfolding marksOf
+  marked p = pick-true _ _ _ (lt-ltb s streams fits)
+
+  plain-turn : inTurn (marksOf m) s nontrailer ≡ isSet m (marksPlace nontrailer) s
+  unfolding inTurn
+  plain-turn = ap not (marked nontrailer) ∙ twice _
+
+  trailer-turn : inTurn (marksOf m) s trailer ≡ not (isSet m (marksPlace nontrailer) s) && isSet m (marksPlace trailer) s
+  unfolding inTurn
+  trailer-turn = ap₂ _&&_ (marked nontrailer) (ap not (marked trailer) ∙ twice _)
+
+-- ---- each way through the test
+
+module _ (m : List ℕ) (s n : ℕ) where
+  abbrev Turn : Bool
+  Turn = partTurn (marksOf m) s (partOf n)
+
+  pub turn-above : streams ≤ s → Turn ≡ false
+  turn-above h = above (marksOf m) s (partOf n) h
+
+  pub turn-no-part : (n ≡ 0 → ⊥) → (n ≡ 1 → ⊥) → Turn ≡ false
+  unfolding partTurn
+  turn-no-part z o = ap (partTurn (marksOf m) s) (no-part n z o)
+
+  module _ (fits : s < streams) where
+    pub turn-plain : n ≡ 0 → Turn ≡ isSet m (marksPlace nontrailer) s
+    turn-plain e = ap (partTurn (marksOf m) s) (plain-part n e) ∙ below (marksOf m) s nontrailer fits ∙ plain-turn m s fits
+
+    trailer-both : n ≡ 1 → Turn ≡ not (isSet m (marksPlace nontrailer) s) && isSet m (marksPlace trailer) s
+    trailer-both e = ap (partTurn (marksOf m) s) (trailer-part n e) ∙ below (marksOf m) s trailer fits ∙ trailer-turn m s fits
+
+    -- "a trailer before its non-trailer"
+    pub turn-early : n ≡ 1 → isSet m (marksPlace nontrailer) s ≡ true → Turn ≡ false
+    turn-early e waiting = trailer-both e ∙ ap (λ (b : Bool). not b && isSet m (marksPlace trailer) s) waiting
+
+    pub turn-trailer : n ≡ 1 → isSet m (marksPlace nontrailer) s ≡ false → Turn ≡ isSet m (marksPlace trailer) s
+    turn-trailer e done = trailer-both e ∙ ap (λ (b : Bool). not b && isSet m (marksPlace trailer) s) done

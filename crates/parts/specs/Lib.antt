@@ -1,0 +1,2 @@
+-- Parts of streams in memory.
+pub mod Turn

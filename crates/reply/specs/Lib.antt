@@ -1,0 +1,3 @@
+-- What a call answers and leaves.
+pub mod Reply
+pub mod Result

@@ -1,0 +1,15 @@
+-- An answer with its told numbers, and the one number that a C host gets.
+use Prim.Native.Nat.{ℕ, _+_, _*_, _<_}
+use Rattle.integers.specs.Answers.{Answer}
+use Rattle.reply.specs.declared.Reply.{Reply}
+
+abbrev pub answerOf : Reply → Answer
+answerOf r = record { number = r .number; first = r .first; second = r .second }
+
+-- answer + 2^8 · first + 2^40 · second
+unfoldable pub packed : Answer → ℕ
+packed a = a .number + 256 * a .first + 1099511627776 * a .second
+
+-- what fits: the second number of an answer is at most 2^24 - 1
+abbrev pub Narrow : Answer → Type 0
+Narrow a = a .second < 16777216

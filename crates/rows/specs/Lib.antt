@@ -1,0 +1,2 @@
+-- Rows of the table in memory.
+pub mod Rows

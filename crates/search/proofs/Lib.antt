@@ -1,0 +1,6 @@
+-- The laws of `search`: plain values, for the functions' proofs and the crates above.
+pub mod Fields
+pub mod Finding
+pub mod Walking
+pub mod Serving
+pub mod Modelled

@@ -1,0 +1,3 @@
+-- Searches of the header table.
+pub mod Search
+pub mod Place

@@ -1,0 +1,4 @@
+// Searches of the header table in lent memory. Nothing is changed here.
+pub mod find;
+pub mod names;
+pub mod place;

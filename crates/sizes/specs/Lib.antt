@@ -1,0 +1,2 @@
+-- How many bytes things take on the wire.
+pub mod Sizes

@@ -1,0 +1,94 @@
+-- What forms a state: "docs/ says exactly what forms one". A computed test, linear in what is used; nothing unused is looked at.
+use Prim.Native.Nat.{ℕ, zero, suc, _+_, _*_, _-_}
+use mathlib.Core.Bool.{Bool, true, _&&_}
+use mathlib.Core.List.{List}
+use lib.ListN.{length}
+use lib.Dec.{eqb, ltb, leb}
+use Rattle.memory.specs.Choice.{pick}
+use Rattle.memory.specs.Numbers.{number}
+use Rattle.memory.specs.Compare.{zerosAt}
+use Rattle.integers.specs.Integer.{largest}
+use Rattle.state.specs.Layout.{
+  decoderLength,
+  encoderLength,
+  decoderRole,
+  encoderRole,
+  february,
+  deletePlace,
+  roleOf,
+  editionOf,
+  limitOf,
+  heldOf,
+  countOf,
+  deleteCount,
+  indexAt,
+  offsetAt,
+  nameLengthAt,
+  valueLengthAt,
+  statusAt,
+  restAt,
+}
+use Rattle.state.specs.EncoderState.{plainAt, trailerAt}
+
+-- enough bytes; role; edition; "a held size or limit above 4,096, does not" form a state; "The list has 128 places"; zeros to the head's end
+unfoldable pub headOk : ℕ → ℕ → List ℕ → Bool
+headOk role bytes m =
+    leb bytes (length m) && (eqb (roleOf m) role && (eqb (editionOf m) february
+    && (leb (limitOf m) 4096 && (leb (heldOf m) 4096 && (leb (countOf m) 128 && zerosAt 54 m 10)))))
+
+-- row i may follow rows with indexes below low whose text ends at the offset: "Memory with two entries at one index .. does not" form a state
+unfoldable pub rowOk : List ℕ → ℕ → ℕ → ℕ → ℕ → Bool
+rowOk m top low offset i =
+    leb low (indexAt m i) && (leb (indexAt m i) top && (eqb (offsetAt m i) offset
+    && (leb (nameLengthAt m i) 255 && (leb (valueLengthAt m i) 2047 && eqb (restAt m i) 0))))
+
+-- the k rows from row i on, the last. `also` is what each end asks of a row beside. After the last row: "a held size that is not their sum" does not
+unfoldable pub rowsOk : (ℕ → Bool) → List ℕ → ℕ → ℕ → ℕ → ℕ → ℕ → Bool
+rowsOk also m top zero i low offset = eqb (offset + 32 * i) (heldOf m)
+rowsOk also m top (suc k) i low offset =
+    rowOk m top low offset i && (also i && rowsOk also m top k (i + 1) (indexAt m i + 1) (offset + (nameLengthAt m i + valueLengthAt m i)))
+
+-- ---- decoder
+
+-- the row's status is 0, or points at a delete with its index
+unfoldable pub statusOk : List ℕ → ℕ → Bool
+statusOk m i =
+    pick (eqb (statusAt m i) 0) true
+    (leb (statusAt m i) (deleteCount m) && eqb (number 4 m (deletePlace (statusAt m i - 1))) (indexAt m i))
+
+-- how many of the k rows from row i on point at a delete
+unfoldable pub pointing : List ℕ → ℕ → ℕ → ℕ
+pointing m zero i = 0
+pointing m (suc k) i = pick (eqb (statusAt m i) 0) 0 1 + pointing m k (i + 1)
+
+-- k streams from the place at on, each above the one before it and at most 4,095
+unfoldable pub streamsOk : List ℕ → ℕ → ℕ → ℕ → Bool
+streamsOk m zero at last = true
+streamsOk m (suc k) at last = ltb last (number 2 m at) && (leb (number 2 m at) 4095 && streamsOk m k (at + 2) (number 2 m at))
+
+-- "Horizon at most 4,096, count at most 16"; the unused places are 0
+unfoldable pub listOk : List ℕ → ℕ → Bool
+listOk m at =
+    leb (number 2 m at) 4096 && (leb (number 2 m (at + 2)) 16
+    && (streamsOk m (number 2 m (at + 2)) (at + 4) (number 2 m at) && zerosAt (32 - 2 * number 2 m (at + 2)) m (at + 4 + 2 * number 2 m (at + 2))))
+
+unfoldable pub deletesOk : List ℕ → ℕ → ℕ → Bool
+deletesOk m zero k = true
+deletesOk m (suc n) k = listOk m (deletePlace k + 4) && (listOk m (deletePlace k + 40) && deletesOk m n (k + 1))
+
+-- as many rows point at a delete as there are deletes. Rows have different indexes, so two never point at one delete:
+-- every delete has its row, and no index has two deletes
+unfoldable pub formsDecoder : List ℕ → Bool
+formsDecoder m =
+    headOk decoderRole decoderLength m && (leb (deleteCount m) 256 && (rowsOk (statusOk m) m largest (countOf m) 0 62 0
+    && (eqb (pointing m (countOf m) 0) (deleteCount m) && deletesOk m (deleteCount m) 0)))
+
+-- ---- encoder
+
+-- under deletion or not, and both horizons at most 4,096
+unfoldable pub referenceOk : List ℕ → ℕ → Bool
+referenceOk m i = leb (statusAt m i) 1 && (leb (plainAt m (indexAt m i)) 4096 && leb (trailerAt m (indexAt m i)) 4096)
+
+-- "the lowest from 62 that is not held" is at most 189
+unfoldable pub formsEncoder : List ℕ → Bool
+formsEncoder m = headOk encoderRole encoderLength m && (eqb (deleteCount m) 0 && rowsOk (referenceOk m) m 189 (countOf m) 0 62 0)

@@ -1,0 +1,38 @@
+-- The part of the state memory that both ends share: head, marks, rows and text, 7,232 bytes.
+use Prim.Native.Nat.{ℕ}
+use mathlib.Core.Bool.{false, not}
+use mathlib.Core.List.{List, [], _∷_, _++_}
+use lib.ListN.{length, replicate}
+use lib.Dec.{ltb}
+use Rattle.memory.specs.Choice.{pick}
+use Rattle.memory.specs.Bytes.{overlay}
+use Rattle.memory.specs.Numbers.{numberBytes}
+use Rattle.marks.specs.Marks.{isSet, wordsBytes}
+use Rattle.model.specs.Parts.{nontrailer, trailer, Marks, streams}
+use Rattle.state.specs.Layout.{february, marksPlace, rowsPlace, textPlace}
+use Rattle.state.specs.Rows.{Row, rowsBytes, textBytes, rowsSize}
+
+pub record Front : Type 0 where
+  pub role : ℕ
+  pub limit : ℕ
+  pub rows : List Row
+  pub deletes : ℕ
+  pub marks : Marks
+
+-- a set bit: at the decoder the part is unfinished, at the encoder it is not written yet
+unfoldable pub marksOf : List ℕ → Marks
+marksOf m s p = pick (ltb s streams) (not (isSet m (marksPlace p) s)) false
+
+unfoldable pub headBytes : Front → List ℕ
+headBytes f =
+    (f .role ∷ february ∷ []) ++ (numberBytes 2 (f .limit) ++ (numberBytes 2 (rowsSize (f .rows)) ++ (numberBytes 2 (length (f .rows))
+    ++ (numberBytes 2 (f .deletes) ++ replicate 54 0))))
+
+unfoldable pub marksBytes : Marks → List ℕ
+marksBytes marks = wordsBytes (λ s. not (marks s nontrailer)) 0 64 ++ wordsBytes (λ s. not (marks s trailer)) 0 64
+
+-- m, with the bytes of f over it
+unfoldable pub overlayFront : Front → List ℕ → List ℕ
+overlayFront f m =
+    overlay (overlay (overlay (overlay m 0 (headBytes f)) (marksPlace nontrailer) (marksBytes (f .marks))) rowsPlace (rowsBytes 0 (f .rows)))
+    textPlace (textBytes (f .rows))

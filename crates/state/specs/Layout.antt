@@ -1,0 +1,86 @@
+-- The places of the state memory (docs/STATE.md). They are fixed once, for the base and for all later requests, so that none ever moves.
+use Prim.Native.Nat.{ℕ, _+_, _*_, _-_}
+use mathlib.Core.List.{List}
+use lib.ListN.{getD}
+use Rattle.memory.specs.Numbers.{number}
+use Rattle.model.specs.Parts.{Part, nontrailer, trailer}
+
+-- "State memory is at most 64 KiB per table; docs/ fixes the length"
+abbrev pub decoderLength : ℕ
+decoderLength = 35912
+
+abbrev pub encoderLength : ℕ
+encoderLength = 16960
+
+-- what the role byte says, and the edition byte: February, the draft's second month
+abbrev pub decoderRole : ℕ
+decoderRole = 1
+
+abbrev pub encoderRole : ℕ
+encoderRole = 2
+
+abbrev pub february : ℕ
+february = 2
+
+-- the marks of a kind of part: 512 bytes each
+abbrev pub marksPlace : Part → ℕ
+marksPlace nontrailer = 64
+marksPlace trailer = 576
+
+abbrev pub rowsPlace : ℕ
+rowsPlace = 1088
+
+abbrev pub rowPlace : ℕ → ℕ
+rowPlace i = 1088 + 16 * i
+
+abbrev pub textPlace : ℕ
+textPlace = 3136
+
+-- after the text: at the decoder the deletes in order of arrival, at the encoder what an entry's delete will be made from, by its index
+abbrev pub deletesPlace : ℕ
+deletesPlace = 7232
+
+abbrev pub deletePlace : ℕ → ℕ
+deletePlace k = 7232 + 76 * k
+
+abbrev pub referencePlace : ℕ → ℕ
+referencePlace index = 7232 + 76 * (index - 62)
+
+-- ---- the head: role, edition, limit, held size, entry count, number of deletes, then zeros
+abbrev pub roleOf : List ℕ → ℕ
+roleOf m = getD m 0 0
+
+abbrev pub editionOf : List ℕ → ℕ
+editionOf m = getD m 1 0
+
+abbrev pub limitOf : List ℕ → ℕ
+limitOf m = number 2 m 2
+
+abbrev pub heldOf : List ℕ → ℕ
+heldOf m = number 2 m 4
+
+abbrev pub countOf : List ℕ → ℕ
+countOf m = number 2 m 6
+
+abbrev pub deleteCount : List ℕ → ℕ
+deleteCount m = number 2 m 8
+
+-- ---- row i: index, text offset, name length, value length, status, zeros
+abbrev pub indexAt : List ℕ → ℕ → ℕ
+indexAt m i = number 4 m (rowPlace i)
+
+abbrev pub offsetAt : List ℕ → ℕ → ℕ
+offsetAt m i = number 2 m (rowPlace i + 4)
+
+abbrev pub nameLengthAt : List ℕ → ℕ → ℕ
+nameLengthAt m i = number 2 m (rowPlace i + 6)
+
+abbrev pub valueLengthAt : List ℕ → ℕ → ℕ
+valueLengthAt m i = number 2 m (rowPlace i + 8)
+
+-- at the decoder 0, or the place of the entry's delete and one; at the encoder 1 where the entry is under deletion, else 0
+abbrev pub statusAt : List ℕ → ℕ → ℕ
+statusAt m i = number 2 m (rowPlace i + 10)
+
+abbrev pub restAt : List ℕ → ℕ → ℕ
+restAt m i = number 4 m (rowPlace i + 12)

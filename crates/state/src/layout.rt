@@ -1,0 +1,68 @@
+// The places of the state memory; docs/STATE.md has them byte by byte. They are fixed once, so that none ever moves.
+ghost use mathlib.Core.Path.{_≡_};
+ghost use Prim.Native.Nat.{ℕ, _+_, _*_, _≤_};
+
+// The bytes that each end lends. Longer memory is accepted, and what lies behind them is never touched.
+pub const DECODER_LENGTH: usize = 35_912;
+
+pub const ENCODER_LENGTH: usize = 16_960;
+
+pub const DECODER: u8 = 1;
+
+pub const ENCODER: u8 = 2;
+
+pub const FEBRUARY: u8 = 2;
+
+// The head: role, edition, then these, each of two bytes, then zeros.
+pub const LIMIT: usize = 2;
+
+pub const HELD: usize = 4;
+
+pub const COUNT: usize = 6;
+
+pub const DELETES_COUNT: usize = 8;
+
+pub const HEAD_REST: usize = 10;
+
+pub const HEAD_ZEROS: usize = 54;
+
+// The marks of the two kinds of parts.
+pub const PLAIN_MARKS: usize = 64;
+
+pub const TRAILER_MARKS: usize = 576;
+
+pub const ROWS: usize = 1_088;
+
+pub const TEXT: usize = 3_136;
+
+// At the decoder the deletes, at the encoder the references.
+pub const DELETES: usize = 7_232;
+
+// What tables may hold.
+pub const PLACES: usize = 128;
+
+pub const DELETE_PLACES: usize = 256;
+
+pub const MOST_HELD: u16 = 4_096;
+
+pub const FIRST_INDEX: u32 = 62;
+
+pub const LAST_INDEX: u32 = 134_217_727;
+
+pub const LAST_SENT_INDEX: u32 = 189;
+
+// Where row `i` stands: index 4, text offset 2, name length 2, value length 2, status 2, zeros 4.
+pub fn row_place(i: usize) -> usize
+    requires { ⌜ i ≤ 256 ⌝ }
+    ensures { λ r. ⌜ r ≡ 1088 + 16 * i ⌝ }
+{
+    ROWS + 16 * i
+}
+
+// Where delete `k` stands: index 4, and two lists of horizon 2, count 2 and 16 streams of 2.
+pub fn delete_place(k: usize) -> usize
+    requires { ⌜ k ≤ 256 ⌝ }
+    ensures { λ r. ⌜ r ≡ 7232 + 76 * k ⌝ }
+{
+    DELETES + 76 * k
+}

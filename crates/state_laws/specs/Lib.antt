@@ -1,0 +1,2 @@
+-- What ties memory to the model's states.
+pub mod Laws

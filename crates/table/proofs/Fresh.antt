@@ -1,0 +1,28 @@
+-- The head and the marks of a fresh state: stores one behind the other are one run of their bytes.
+use mathlib.Core.Path.{_≡_, refl, sym, ap, _∙_}
+use Prim.Native.Nat.{ℕ}
+use mathlib.Core.Bool.{true}
+use mathlib.Core.List.{List, _++_}
+use lib.ListN.{replicate, set}
+use Rattle.memory.specs.Bytes.{overlay}
+use Rattle.memory.specs.Numbers.{numberBytes}
+use Rattle.marks.specs.Marks.{wordsBytes}
+use Rattle.marks.proofs.Words.{words-length}
+use Rattle.model.specs.Table.{total}
+use Rattle.state.specs.Rows.{rowsSize}
+use Rattle.state.specs.Front.{headBytes, marksBytes}
+use Rattle.rows.proofs.Stores.{after}
+use Rattle.table.specs.Changes.{freshFront, started}
+
+pub head-stored : (m a b : List ℕ) (role limit : ℕ) → a ≡ overlay (set (set m 0 role) 1 2) 2 (numberBytes 2 limit) → b ≡ overlay a 4 (replicate 60 0)
+    → b ≡ overlay m 0 (headBytes (freshFront role limit))
+unfolding headBytes rowsSize total numberBytes
+head-stored m a b role limit ea eb = eb ∙ ap (λ (l : List ℕ). overlay l 4 (replicate 60 0)) ea
+
+pub marks-stored : (m a b c : List ℕ) (role limit : ℕ) → a ≡ overlay m 0 (headBytes (freshFront role limit))
+    → b ≡ overlay a 64 (wordsBytes (λ s. true) 0 64) → c ≡ overlay b 576 (wordsBytes (λ s. true) 0 64) → c ≡ started m role limit
+unfolding marksBytes started
+marks-stored m a b c role limit ea eb ec =
+    let words : List ℕ = wordsBytes (λ s. true) 0 64 in
+    ec ∙ ap (λ (l : List ℕ). overlay l 576 words) eb ∙ sym (after a 64 512 576 words words (words-length (λ s. true) 0 64) refl)
+    ∙ ap (λ (l : List ℕ). overlay l 64 (words ++ words)) ea

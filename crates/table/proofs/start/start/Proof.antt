@@ -1,0 +1,29 @@
+use Rattle.table.proofs.Fresh.{marks-stored}
+use borrow.Author.Needs.{needs}
+use Rattle.table.proofs.start.start.Statement.{statement}
+use Rattle.table.proofs.start.start.Tie as tie
+
+-- `table::start::start` meets its contract: the head, and the marks behind it.
+
+put-head-requires : tie.Need-put-head-requires
+put-head-requires c κs = search needs
+
+set-all-requires : tie.Need-set-all-requires
+set-all-requires c κs = search needs
+
+set-all-requires-2 : tie.Need-set-all-requires-2
+set-all-requires-2 c κs = search needs
+
+same-length : tie.Need-same-length
+same-length c = search needs
+
+returns : tie.Need-returns
+returns c =
+    let plain = c .before .before .before .before .before .before in
+    let head = plain .before .before .before .before in
+    let a = head .before .before .before .args in
+    marks-stored (a .m .now) _ _ _ (a .role) (a .limit) (head .put-head .ensures) (plain .set-all .ensures) (c .before .before .set-all2 .ensures)
+
+pub start-spec : {M : Type 1} → statement M
+start-spec =
+    tie.close (tie.spec put-head-requires set-all-requires set-all-requires-2 same-length returns)

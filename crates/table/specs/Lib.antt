@@ -1,0 +1,2 @@
+-- What the changes of the table leave in memory.
+pub mod Changes
