@@ -2,6 +2,7 @@
 ghost use mathlib.Core.Path.{_≡_};
 ghost use Prim.Native.Nat.{ℕ, _+_, _-_, _≤_, _<_};
 ghost use Rattle.account.specs.Account.{fits, charged, released};
+
 pub struct Account {
     pub limit: u16,
     pub held: u16,
