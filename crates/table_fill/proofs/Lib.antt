@@ -1,0 +1,2 @@
+-- The laws of `table_fill`, for its functions' proofs.
+pub mod Standing
