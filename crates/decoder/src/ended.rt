@@ -1,0 +1,30 @@
+// A stream has ended or was reset: both parts are finished.
+ghost use mathlib.Core.Path.{_≡_};
+ghost use Rattle.reply.specs.Reply.{answerOf};
+ghost use Rattle.decoder.specs.Calls.{endedCall};
+use integers::answer::NO_STATE;
+use integers::answer::OUT_OF_TURN;
+use integers::number::StreamNumber;
+use marks::mark::clear;
+use reply::Reply;
+use state::decoder::forms_decoder;
+use state::layout::PLAIN_MARKS;
+use state::layout::TRAILER_MARKS;
+
+pub fn ended(m: &mut [u8], stream: u64) -> Reply
+    ensures { λ r. ⌜ answerOf r ≡ endedCall (now (m .entry)) stream .answer ⌝ }
+    ensures { λ _. ⌜ now (m .exit) ≡ endedCall (now (m .entry)) stream .memory ⌝ }
+{
+    if !forms_decoder(m) {
+        return Reply::refused(NO_STATE);
+    }
+    if 4_095 < stream {
+        return Reply::refused(OUT_OF_TURN);
+    }
+    let s = StreamNumber {
+        value: stream as u16,
+    };
+    clear(m, PLAIN_MARKS, s);
+    clear(m, TRAILER_MARKS, s);
+    Reply::done(0, 0)
+}

@@ -1,0 +1,223 @@
+// One management instruction, read from the front of the bytes and done on the table.
+ghost use mathlib.Core.Path.{_≡_};
+ghost use mathlib.Core.Bool.{true};
+ghost use Prim.Native.Nat.{_≤_, _<_};
+ghost use Rattle.wire.specs.Text.{InText, stringLength, stringBytes};
+ghost use Rattle.wire.specs.StreamList.{InList, listOf};
+ghost use Rattle.instructions.specs.Instruction.{FineIndex};
+ghost use Rattle.state.specs.Layout.{countOf};
+ghost use Rattle.state.specs.Rows.{nameAt};
+ghost use Rattle.state.specs.Forms.{formsDecoder};
+ghost use Rattle.statics.specs.Table.{staticName};
+ghost use Rattle.search.specs.Search.{findFrom};
+ghost use Rattle.reply.specs.Reply.{answerOf};
+ghost use Rattle.decoder.specs.Calls.{readCall};
+ghost use Rattle.decoder.specs.Steps.{namedInsert, indexedInsert, keptDelete, judged, judgedNumber};
+use deletes::kept::append_delete;
+use instructions::read::InstructionPlace;
+use instructions::read::InstructionRead;
+use instructions::read::read_for_decoder;
+use integers::answer;
+use integers::number::TableIndex;
+use memory::number::u16_at;
+use reply::Reply;
+use search::find::Found;
+use search::find::find;
+use search::place::EntryPlace;
+use search::place::locate;
+use state::decoder::forms_decoder;
+use state::layout;
+use statics::table::static_name;
+use statics::table::static_text;
+use table::insert::insert_like;
+use table::insert::insert_named;
+use table::insert::insert_strings;
+use wire::name::NamePlace;
+use wire::stream_list::ListPlace;
+use wire::text::StringPlace;
+
+// Where a new entry goes, or why it is refused.
+pub enum Judged {
+    Room(usize),
+    Refused(u8),
+}
+
+impl Judged {
+    pub fn number(self) -> u8
+        ensures { λ r. ⌜ r ≡ judgedNumber self ⌝ }
+    {
+        match self {
+            Judged::Room(_) => 0,
+            Judged::Refused(number) => number,
+        }
+    }
+}
+
+// Judges an insert of an entry of this size: 6, 7, 15. Sizes are added, since the held size may be above the limit.
+fn judge(m: &[u8], index: TableIndex, size: usize) -> Judged
+    requires { ⌜ (62 ≤ index .value) × (size < 65536) × (formsDecoder (now m) ≡ true) ⌝ }
+    ensures { λ r. ⌜ r ≡ judged (now (m .entry)) (index .value) size ⌝ }
+{
+    let f = find(m, index);
+    let Found::Vacant(place) = f else {
+        return Judged::Refused(answer::HELD);
+    };
+    if (u16_at(m, layout::LIMIT) as usize) < (u16_at(m, layout::HELD) as usize) + size {
+        return Judged::Refused(answer::OVER_LIMIT);
+    }
+    if layout::PLACES <= (u16_at(m, layout::COUNT) as usize) {
+        return Judged::Refused(answer::FULL);
+    }
+    Judged::Room(place)
+}
+
+// An insert whose name is a string of `s`.
+fn insert_by_string(
+    m: &mut [u8],
+    s: &[u8],
+    index: TableIndex,
+    name: StringPlace,
+    value: StringPlace,
+    taken: u32,
+) -> Reply
+    requires { ⌜ FineIndex (index .value) × (formsDecoder (now m) ≡ true) ⌝ }
+    requires { ⌜ InText (now s) name × (stringLength (now s) name ≤ 255) × InText (now s) value × (stringLength (now s) value ≤ 2047) ⌝ }
+    ensures { λ r. ⌜ answerOf r ≡ namedInsert (now (m .entry)) (index .value)
+        (stringBytes (now (s .entry)) name) (stringBytes (now (s .entry)) value) taken .answer ⌝ }
+    ensures { λ _. ⌜ now (m .exit) ≡ namedInsert (now (m .entry)) (index .value)
+        (stringBytes (now (s .entry)) name) (stringBytes (now (s .entry)) value) taken .memory ⌝ }
+{
+    let j = judge(m, index, name.length(s) + value.length(s) + 32);
+    let Judged::Room(place) = j else {
+        return Reply::refused(j.number());
+    };
+    insert_strings(m, place, index, s, name, value);
+    Reply::done(taken, 0)
+}
+
+// An insert whose name is that of a static entry.
+fn insert_by_static(
+    m: &mut [u8],
+    s: &[u8],
+    index: TableIndex,
+    named: u32,
+    value: StringPlace,
+    taken: u32,
+) -> Reply
+    requires { ⌜ FineIndex (index .value) × (formsDecoder (now m) ≡ true) × (1 ≤ named) × (named ≤ 61) ⌝ }
+    requires { ⌜ InText (now s) value × (stringLength (now s) value ≤ 2047) ⌝ }
+    ensures { λ r. ⌜ answerOf r ≡ namedInsert (now (m .entry)) (index .value) (staticName named) (stringBytes (now (s .entry)) value) taken .answer ⌝ }
+    ensures { λ _. ⌜ now (m .exit) ≡ namedInsert (now (m .entry)) (index .value) (staticName named) (stringBytes (now (s .entry)) value) taken .memory ⌝ }
+{
+    let text = static_text();
+    let name = static_name(&text, named);
+    let j = judge(m, index, name.len() + value.length(s) + 32);
+    let Judged::Room(place) = j else {
+        return Reply::refused(j.number());
+    };
+    insert_named(m, place, index, name, s, value);
+    Reply::done(taken, 0)
+}
+
+// An insert whose name is that of the entry in row `row`.
+fn insert_by_row(
+    m: &mut [u8],
+    s: &[u8],
+    index: TableIndex,
+    named: TableIndex,
+    row: usize,
+    value: StringPlace,
+    taken: u32,
+) -> Reply
+    requires { ⌜ FineIndex (index .value) × (formsDecoder (now m) ≡ true) ⌝ }
+    requires { ⌜ findFrom (now m) (named .value) (countOf (now m)) 0 ≡ Found.At row ⌝ }
+    requires { ⌜ InText (now s) value × (stringLength (now s) value ≤ 2047) ⌝ }
+    ensures { λ r. ⌜ answerOf r ≡ namedInsert (now (m .entry)) (index .value)
+        (nameAt (now (m .entry)) row) (stringBytes (now (s .entry)) value) taken .answer ⌝ }
+    ensures { λ _. ⌜ now (m .exit) ≡ namedInsert (now (m .entry)) (index .value)
+        (nameAt (now (m .entry)) row) (stringBytes (now (s .entry)) value) taken .memory ⌝ }
+{
+    let name = u16_at(m, layout::row_place(row) + 6) as usize;
+    let j = judge(m, index, name + value.length(s) + 32);
+    let Judged::Room(place) = j else {
+        return Reply::refused(j.number());
+    };
+    insert_like(m, place, index, row, s, value);
+    Reply::done(taken, 0)
+}
+
+// An insert whose name is given by index: 8 where that is vacant.
+fn insert_by_index(
+    m: &mut [u8],
+    s: &[u8],
+    index: TableIndex,
+    named: TableIndex,
+    value: StringPlace,
+    taken: u32,
+) -> Reply
+    requires { ⌜ FineIndex (index .value) × (formsDecoder (now m) ≡ true) × (1 ≤ named .value) ⌝ }
+    requires { ⌜ InText (now s) value × (stringLength (now s) value ≤ 2047) ⌝ }
+    ensures { λ r. ⌜ answerOf r ≡ indexedInsert (now (m .entry)) (index .value) (named .value) (stringBytes (now (s .entry)) value) taken .answer ⌝ }
+    ensures { λ _. ⌜ now (m .exit) ≡ indexedInsert (now (m .entry)) (index .value) (named .value) (stringBytes (now (s .entry)) value) taken .memory ⌝ }
+{
+    match locate(m, named) {
+        EntryPlace::Static(i) => insert_by_static(m, s, index, i.value, value, taken),
+        EntryPlace::Dynamic(row) => insert_by_row(m, s, index, named, row, value, taken),
+        EntryPlace::Nowhere => Reply::refused(answer::VACANT),
+    }
+}
+
+// A delete: 8, 9. It is kept with its lists.
+fn delete(
+    m: &mut [u8],
+    s: &[u8],
+    index: TableIndex,
+    plain: ListPlace,
+    trailer: ListPlace,
+    taken: u32,
+) -> Reply
+    requires { ⌜ FineIndex (index .value) × (formsDecoder (now m) ≡ true) ⌝ }
+    requires { ⌜ InList (now s) plain × InList (now s) trailer ⌝ }
+    ensures { λ r. ⌜ answerOf r ≡ keptDelete (now (m .entry))
+        (record { index = index .value; plain = listOf (now (s .entry)) plain; trailer = listOf (now (s .entry)) trailer }) taken .answer ⌝ }
+    ensures { λ _. ⌜ now (m .exit) ≡ keptDelete (now (m .entry))
+        (record { index = index .value; plain = listOf (now (s .entry)) plain; trailer = listOf (now (s .entry)) trailer }) taken .memory ⌝ }
+{
+    let f = find(m, index);
+    let Found::At(place) = f else {
+        return Reply::refused(answer::VACANT);
+    };
+    if u16_at(m, layout::row_place(place) + 10) != 0 {
+        return Reply::refused(answer::UNDER_DELETION);
+    }
+    append_delete(m, place, index, s, plain, trailer);
+    Reply::done(taken, 0)
+}
+
+pub fn read(m: &mut [u8], s: &[u8]) -> Reply
+    ensures { λ r. ⌜ answerOf r ≡ readCall (now (m .entry)) (now (s .entry)) .answer ⌝ }
+    ensures { λ _. ⌜ now (m .exit) ≡ readCall (now (m .entry)) (now (s .entry)) .memory ⌝ }
+{
+    if !forms_decoder(m) {
+        return Reply::refused(answer::NO_STATE);
+    }
+    let r = read_for_decoder(s);
+    let InstructionRead::Found(instruction, taken) = r else {
+        return Reply::refused(r.number());
+    };
+    match instruction {
+        InstructionPlace::Insert(index, name, value) => match name {
+            NamePlace::Index(named) => insert_by_index(m, s, index, named, value, taken as u32),
+            NamePlace::Text(text) => insert_by_string(m, s, index, text, value, taken as u32),
+        },
+        InstructionPlace::Delete(index, plain, trailer) => delete(
+            m,
+            s,
+            index,
+            plain,
+            trailer,
+            taken as u32,
+        ),
+        InstructionPlace::Acknowledge(_) => Reply::refused(answer::NOT_ALLOWED),
+    }
+}

@@ -1,0 +1,2 @@
+-- What a block means against the table in memory, and what its fields measure.
+pub mod Measure

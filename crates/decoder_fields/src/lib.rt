@@ -1,0 +1,3 @@
+// The fields of a header block: measured, and written in the host's list form.
+pub mod measure;
+pub mod write;
