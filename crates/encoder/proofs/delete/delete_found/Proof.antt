@@ -1,0 +1,138 @@
+-- `encoder::delete::delete_found` meets its contract: the horizons read are the entry's, so the size is the length of its delete.
+use mathlib.Core.Path.{refl}
+use native.Mathlib.Omega.{arith}
+use borrow.Author.Needs.{needs}
+use Rattle.memory.specs.Bytes.{Small}
+use Rattle.encoder.proofs.Leaving.{answer-of, memory-of, output-of}
+use Rattle.encoder.proofs.Standing.{RowFound, row-found, long}
+use Rattle.encoder.proofs.Deleting.{said-fine, said-length, found-short, found-done}
+use Rattle.encoder.proofs.delete.delete_found.Statement.{statement}
+use Rattle.encoder.proofs.delete.delete_found.Tie as tie
+
+small : (c : tie.After-slice-known) → Small (c .before .args .m .now)
+small c k = omega (arith, c .slice-known .given k)
+
+row : (c : tie.After-slice-known) → RowFound (c .before .args .m .now) (c .before .args .index .value) (c .before .args .place)
+row c = row-found _ (small c) (c .before .pre .0) _ _ (c .before .pre .1 .0)
+
+reference-place-requires : tie.Need-reference-place-requires
+reference-place-requires c κs = let r = row (c .before) in (r .low, r .high)
+
+u16-at-requires : tie.Need-u16-at-requires
+u16-at-requires c κs =
+    let s = c .before .before .before in
+    let r = row s in
+    omega (arith, c .before .reference-place .ensures, r .high, long _ (small s) (s .before .pre .0))
+
+cast-plain : tie.Need-cast-plain
+cast-plain c = search needs
+
+add-u16-at : tie.Need-add-u16-at
+add-u16-at c = search needs
+
+u16-at-requires-2 : tie.Need-u16-at-requires-2
+u16-at-requires-2 c κs =
+    let s = c .before .before .before .before .before in
+    let r = row s in
+    omega (arith, c .before .before .before .reference-place .ensures, r .high, long _ (small s) (s .before .pre .0))
+
+cast-trailer : tie.Need-cast-trailer
+cast-trailer c = search needs
+
+delete-size-requires : tie.Need-delete-size-requires
+delete-size-requires c κs = search needs
+
+refused-requires : tie.Need-refused-requires
+refused-requires c κs = search needs
+
+same-length : tie.Need-same-length
+same-length c = search needs
+
+returns : tie.Need-returns
+returns c =
+    let t = c .before .before .before in
+    let u = t .before .before in
+    let s = u .before .before .before .before in
+    let a = s .before .args in
+    let p = s .before .pre in
+    let e = found-short (a .m .now) (small s) (p .0) (a .index .value) (a .place) (p .1 .0) (p .1 .1) _ _ _ _
+    (u .before .before .reference-place .ensures) (u .u16-at .ensures) (t .u16-at2 .ensures) (c .before .before .delete-size .ensures .0)
+    (a .out .now) (c .before .if1 .taken) in
+    (answer-of e (c .refused .ensures), (memory-of e refl, output-of e refl))
+
+array-share-prefix-none : tie.Need-array-share-prefix-none
+array-share-prefix-none c = search needs
+
+slice-aggregate-empty : tie.Need-slice-aggregate-empty
+slice-aggregate-empty c = search needs
+
+write-delete-requires : tie.Need-write-delete-requires
+write-delete-requires c κs =
+    let size = c .before .before .before .delete-size .ensures .0 in
+    let t = c .before .before .before .before in
+    let u = t .before .before in
+    let at = u .before .before .reference-place .ensures in
+    let s = u .before .before .before .before in
+    let a = s .before .args in
+    let p = s .before .pre in (
+      said-fine (a .m .now) (small s) (p .0) (a .index .value) (a .place) (p .1 .0) (p .1 .1) _ _ _ _ at (u .u16-at .ensures) (t .u16-at2 .ensures) size,
+      omega (
+        arith,
+        said-length (a .m .now) (small s) (p .0) (a .index .value) (a .place) (p .1 .0) (p .1 .1) _ _ _ _ at (u .u16-at .ensures) (t .u16-at2 .ensures) size,
+        c .before .before .if1 .left,
+      ),
+    )
+
+set-status-requires : tie.Need-set-status-requires
+set-status-requires c κs =
+    let s = c .before .before .before .before .before .before .before .before .before .before .before .before .before .before in
+    (row s .below, omega (arith, long _ (small s) (s .before .pre .0)))
+
+cast-done : tie.Need-cast-done
+cast-done c = search needs
+
+done-requires : tie.Need-done-requires
+done-requires c κs = search needs
+
+same-length-2 : tie.Need-same-length-2
+same-length-2 c = search needs
+
+same-length-3 : tie.Need-same-length-3
+same-length-3 c = search needs
+
+returns-2 : tie.Need-returns-2
+returns-2 c =
+    let w = c .before .before .before .before .before .before .before in
+    let n = w .before .before .before in
+    let t = n .before .before in
+    let u = t .before .before in
+    let s = u .before .before .before .before in
+    let a = s .before .args in
+    let p = s .before .pre in
+    let e = found-done (a .m .now) (small s) (p .0) (a .index .value) (a .place) (p .1 .0) (p .1 .1) _ _ _ _
+    (u .before .before .reference-place .ensures) (u .u16-at .ensures) (t .u16-at2 .ensures) (n .before .delete-size .ensures .0) (a .out .now) (n .if1 .left) in
+    (answer-of e (c .done .ensures), (memory-of e (c .before .before .before .set-status .ensures), output-of e (w .write-delete .ensures .1)))
+
+pub delete-found-spec : {M : Type 1} → statement M
+delete-found-spec =
+    tie.close
+    (tie.spec
+    reference-place-requires
+    u16-at-requires
+    cast-plain
+    add-u16-at
+    u16-at-requires-2
+    cast-trailer
+    delete-size-requires
+    refused-requires
+    same-length
+    returns
+    array-share-prefix-none
+    slice-aggregate-empty
+    write-delete-requires
+    set-status-requires
+    cast-done
+    done-requires
+    same-length-2
+    same-length-3
+    returns-2)

@@ -1,0 +1,75 @@
+// The delete call: an entry put under deletion, its instruction out: 17, 5, 8, 9, 12. The entry is held until its acknowledgement is read.
+ghost use mathlib.Core.Path.{_≡_};
+ghost use mathlib.Core.Bool.{true};
+ghost use Prim.Native.Nat.{ℕ};
+ghost use Rattle.state.specs.Layout.{countOf, statusAt};
+ghost use Rattle.state.specs.Forms.{formsEncoder};
+ghost use Rattle.search.specs.Search.{findFrom};
+ghost use Rattle.reply.specs.Reply.{answerOf};
+ghost use Rattle.encoder.specs.Calls.{deleteCall};
+ghost use Rattle.encoder.specs.Steps.{foundDelete};
+use instructions::write::write_delete;
+use integers::answer::NO_ROOM;
+use integers::answer::NO_STATE;
+use integers::answer::NOT_ALLOWED;
+use integers::answer::UNDER_DELETION;
+use integers::answer::VACANT;
+use integers::number::TableIndex;
+use memory::number::u16_at;
+use reply::Reply;
+use rows::set_status;
+use search::find::Found;
+use search::find::find;
+use sizes::delete_size;
+use state::encoder::forms_encoder;
+use state::encoder::reference_place;
+use state::layout::row_place;
+
+// An entry that is not under deletion: 12, or its delete.
+fn delete_found(m: &mut [u8], index: TableIndex, place: usize, out: &mut [u8]) -> Reply
+    requires { ⌜ formsEncoder (now m) ≡ true ⌝ }
+    requires { ⌜ (findFrom (now m) (index .value) (countOf (now m)) 0 ≡ Found.At place) × (statusAt (now m) place ≡ 0) ⌝ }
+    ensures { λ r. ⌜ answerOf r ≡ foundDelete (now (m .entry)) place (now (out .entry)) .answer ⌝ }
+    ensures { λ _. ⌜ now (m .exit) ≡ foundDelete (now (m .entry)) place (now (out .entry)) .memory ⌝ }
+    ensures { λ _. ⌜ now (out .exit) ≡ foundDelete (now (m .entry)) place (now (out .entry)) .output ⌝ }
+{
+    let at = reference_place(index.value);
+    let plain = u16_at(m, at) as u32;
+    let trailer = u16_at(m, at + 38) as u32;
+    let n = delete_size(index.value, plain, trailer);
+    if out.len() < n {
+        return Reply::refused(NO_ROOM);
+    }
+    let none = [0u16; 1];
+    let empty = &none[..0];
+    write_delete(index, plain, empty, trailer, empty, out, 0);
+    set_status(m, place, 1);
+    Reply::done(n as u32, 0)
+}
+
+pub fn delete(m: &mut [u8], index: u64, out: &mut [u8]) -> Reply
+    ensures { λ r. ⌜ answerOf r ≡ deleteCall (now (m .entry)) index (now (out .entry)) .answer ⌝ }
+    ensures { λ _. ⌜ now (m .exit) ≡ deleteCall (now (m .entry)) index (now (out .entry)) .memory ⌝ }
+    ensures { λ _. ⌜ now (out .exit) ≡ deleteCall (now (m .entry)) index (now (out .entry)) .output ⌝ }
+{
+    if !forms_encoder(m) {
+        return Reply::refused(NO_STATE);
+    }
+    if index < 62 {
+        return Reply::refused(NOT_ALLOWED);
+    }
+    if 134_217_727 < index {
+        return Reply::refused(NOT_ALLOWED);
+    }
+    let i = TableIndex {
+        value: index as u32,
+    };
+    let f = find(m, i);
+    let Found::At(place) = f else {
+        return Reply::refused(VACANT);
+    };
+    if u16_at(m, row_place(place) + 10) != 0 {
+        return Reply::refused(UNDER_DELETION);
+    }
+    delete_found(m, i, place, out)
+}

@@ -1,0 +1,121 @@
+-- How an encoder's call on memory changes a horizon is how the model's call does.
+-- By reading back the block that was written: it names the indexes that the model's block names.
+use mathlib.Core.Path.{_≡_, refl, ap, ap₂, _∙_}
+use Prim.Native.Nat.{ℕ, suc, max}
+use native.Mathlib.Omega.{arith}
+use mathlib.Core.Bool.{Bool, true, false, _&&_, and-false}
+use mathlib.Core.List.{List}
+use lib.ListN.{length}
+use lib.Dec.{eqb}
+use Rattle.memory.specs.Choice.{pick}
+use Rattle.memory.specs.Bytes.{overlay}
+use Rattle.integers.specs.Answers.{Answer, out-of-turn}
+use Rattle.fields.specs.Form.{Field, AllFine}
+use Rattle.fields.specs.Reading.{ListRead, readList}
+use Rattle.fields.specs.Reading as lists
+use Rattle.fields.proofs.Lists.{list-forth}
+use Rattle.instructions.specs.Reading.{readForEncoder, onInstruction}
+use Rattle.instructions.specs.declared.read.InstructionPlace.the-variants.{Insert, Delete, Acknowledge}
+use Rattle.instructions.specs.declared.read.InstructionRead.{InstructionRead}
+use Rattle.instructions.specs.declared.read.InstructionRead.the-variants.{Found, Refused}
+use Rattle.blocks.specs.Reading.{readBlock, blockFrom}
+use Rattle.blocks.specs.Meaning.{blockReferences}
+use Rattle.blocks.proofs.Back.{block-back}
+use Rattle.model.specs.Parts.{Part, partOf, partNumber}
+use Rattle.model.specs.Outcome.{Outcome, outputBytes}
+use Rattle.model.specs.Encoder.{Encoder, mentions, FormsEncoder}
+use Rattle.model.specs.EncoderCalls as at-encoder
+use Rattle.model.specs.History.{raisedBy, begunBy}
+use Rattle.model.specs.History as model
+use Rattle.model.specs.Promises.{Tells}
+use Rattle.model.proofs.EncoderWays.{block-ways}
+use Rattle.model.proofs.Saying.{choices-fine}
+use Rattle.model.proofs.Answers.{encoder-refused, encoded-told}
+use Rattle.state_laws.proofs.EncoderLaws.{encoder-laws}
+use Rattle.parts.specs.Turn.{partTurn}
+use Rattle.reply.specs.Result.{Result}
+use Rattle.link.specs.Calls.{EncoderCall, encoderResult, EncoderBytes}
+use Rattle.link.specs.Calls as calls
+use Rattle.link.specs.Claims.{doneBytes, blockIndexes, indexesOf, horizonAfter}
+use Rattle.link.proofs.Lifted.{StandsEncoder, LiftedEncoder, readListCall, acknowledgedCall, encoderCallOf}
+use Rattle.link.proofs.DoneBytes.{done-bytes}
+
+-- two tests, one after the other or at once
+pick-and : {X : Type 0} (a b : Bool) (x y : X) → pick (a && b) x y ≡ pick a (pick b x y) y
+pick-and true b x y = refl
+pick-and false b x y = refl
+
+-- the horizon after a block that was answered so and wrote these bytes
+abbrev raisedTo : ℕ → Part → ℕ → ℕ → ℕ → ℕ → List ℕ → ℕ
+raisedTo i p h stream part number b = pick (eqb number 0 && (eqb part (partNumber p) && mentions (blockIndexes b) i)) (max h (suc stream)) h
+
+module _ (i : ℕ) (p : Part) (h : ℕ) (E : Encoder) (F : FormsEncoder E) (stream part : ℕ) where
+  -- of the model's outcome
+  abbrev Raises : Outcome Encoder → Type 0
+  Raises o = raisedTo i p h stream part (o .answer .number) (outputBytes (o .output)) ≡ raisedBy i p stream (o .output) part h
+
+  encoded-raises : (fs : List Field) (room : ℕ) → AllFine fs → Raises (at-encoder.encoderCall E (at-encoder.block stream part fs room))
+  unfolding at-encoder.encoderCall outputBytes raisedBy
+  encoded-raises fs room fine =
+      block-ways Raises E (λ a z. rw z refl) stream part fs room
+      (λ q rs chosen e low turn short fits.
+      ap (λ (js : List ℕ). pick (eqb part (partNumber p) && mentions js i) (max h (suc stream)) h)
+      (ap indexesOf (block-back rs (rw chosen (choices-fine (E .entries) (F .order) (F .entries) fs fine)) short))
+      ∙ pick-and (eqb part (partNumber p)) (mentions (blockReferences rs) i) (max h (suc stream)) h)
+
+  -- a call whose bytes the reading refused raises nothing
+  unread-raises : (number : ℕ) → Raises (at-encoder.encoderCall E (at-encoder.unread number))
+  unfolding at-encoder.encoderCall outputBytes raisedBy readBlock blockFrom mentions blockReferences
+  unread-raises number =
+      ap (λ (t : Bool). pick (eqb number 0 && t) (max h (suc stream)) h) (and-false (eqb part (partNumber p)))
+      ∙ ap (λ (t : Bool). pick t (max h (suc stream)) h) (and-false (eqb number 0))
+
+  -- what the call on memory left, and the model's call
+  module _ (r : Result) (out : List ℕ) where
+    abbrev Left : at-encoder.EncoderCall → Type 0
+    Left c = (r .answer ≡ at-encoder.encoderCall E c .answer) × (r .output ≡ overlay out 0 (outputBytes (at-encoder.encoderCall E c .output)))
+
+    left-raises : (c : at-encoder.EncoderCall) → Left c → Tells (length out) (at-encoder.encoderCall E c) → Raises (at-encoder.encoderCall E c)
+        → raisedTo i p h stream part (r .answer .number) (doneBytes r) ≡ raisedBy i p stream (at-encoder.encoderCall E c .output) part h
+    left-raises c left tells raises =
+        ap₂ (raisedTo i p h stream part) (ap (λ (a : Answer). a .number) (left .0))
+        (done-bytes E (at-encoder.encoderCall E c) out r (left .0) (left .1) (encoder-refused E c) tells)
+        ∙ raises
+
+    unread-left : (number : ℕ) → Left (at-encoder.unread number) → raisedTo i p h stream part (r .answer .number) (doneBytes r) ≡ h
+    unfolding at-encoder.encoderCall outputBytes raisedBy
+    unread-left number left =
+        left-raises (at-encoder.unread number) left (record { told = λ z. refl; fits = omega arith }) (unread-raises number)
+
+    block-left : (turn : Bool) (l : ListRead) → ((fs : List Field) → l ≡ lists.ListRead.list fs → AllFine fs)
+        → Left (pick turn (readListCall stream part (length out) l) (at-encoder.unread out-of-turn))
+        → raisedTo i p h stream part (r .answer .number) (doneBytes r)
+        ≡ model.horizonAfter i p h E (pick turn (readListCall stream part (length out) l) (at-encoder.unread out-of-turn))
+    unfolding model.horizonAfter
+    block-left true (lists.ListRead.list fs) fine left =
+        left-raises (at-encoder.block stream part fs (length out)) left (encoded-told E stream part fs (length out))
+        (encoded-raises fs (length out) (fine fs refl))
+    block-left true (lists.ListRead.refused number) fine left = unread-left number left
+    block-left false l fine left = unread-left out-of-turn left
+
+acknowledge-horizon : (i : ℕ) (p : Part) (h : ℕ) (E : Encoder) (r : InstructionRead)
+    → h ≡ model.horizonAfter i p h E (onInstruction at-encoder.unread r acknowledgedCall)
+unfolding model.horizonAfter
+acknowledge-horizon i p h E (Found (Insert j name value) taken) = refl
+acknowledge-horizon i p h E (Found (Delete j plain last) taken) = refl
+acknowledge-horizon i p h E (Found (Acknowledge j) taken) = refl
+acknowledge-horizon i p h E (Refused number) = refl
+
+pub call-horizon : (i : ℕ) (p : Part) (h : ℕ) (m : List ℕ) (E : Encoder) (c : EncoderCall) → EncoderBytes c → StandsEncoder m E
+    → LiftedEncoder E c (encoderResult m c) → horizonAfter i p h m c ≡ model.horizonAfter i p h E (encoderCallOf E c)
+unfolding horizonAfter model.horizonAfter begunBy encoderCallOf
+call-horizon i p h m E (calls.EncoderCall.insert name value out) b stands L =
+    ap (λ (a : Answer). pick (eqb (a .number) 0 && eqb (a .second) i) 0 h) (L .answer)
+    ∙ pick-and (eqb (at-encoder.encoderCall E (at-encoder.insert name value (length out)) .answer .number) 0)
+    (eqb (at-encoder.encoderCall E (at-encoder.insert name value (length out)) .answer .second) i) 0 h
+call-horizon i p h m E (calls.EncoderCall.delete index out) b stands L = refl
+call-horizon i p h m E (calls.EncoderCall.block stream part s out) b stands L =
+    block-left i p h E (rw (stands .state) at (encoder-laws .fits m (stands .small) (stands .forms) .forms)) stream part
+    (encoderResult m (calls.EncoderCall.block stream part s out)) out (partTurn (E .written) stream (partOf part)) (readList s)
+    (λ fs e. list-forth s (b .0) fs e .1) (L .answer, L .output)
+call-horizon i p h m E (calls.EncoderCall.acknowledge s) b stands L = acknowledge-horizon i p h E (readForEncoder s)

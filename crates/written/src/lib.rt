@@ -1,0 +1,1 @@
+// No code: what the encoder writes reads back.
