@@ -1,0 +1,2 @@
+// The calls that a C host links: plain numbers and byte buffers in, one number out. Each is the call of its name, packed.
+pub mod decoder_calls;
