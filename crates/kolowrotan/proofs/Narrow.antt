@@ -12,7 +12,7 @@ use Rattle.memory.specs.Choice.{need}
 use Rattle.integers.specs.Answers.{Answer}
 use Rattle.integers.specs.Integer.{largest}
 use Rattle.fields.specs.Form.{listForm}
-use Rattle.instructions.specs.Instruction.{Instruction, insert, delete, acknowledge}
+use Rattle.instructions.specs.Instruction.{Instruction, insert, delete, acknowledge, instructionWire}
 use Rattle.instructions.specs.Reading.{readForDecoder, instructionOf, onInstruction}
 use Rattle.instructions.specs.declared.read.InstructionRead.{InstructionRead}
 use Rattle.instructions.specs.declared.read.InstructionRead.the-variants.{Found, Refused}
@@ -25,14 +25,14 @@ use Rattle.model.specs.Table.{size, look}
 use Rattle.model.specs.Parts.{Part, partOf, inTurn, Delete, streams}
 use Rattle.model.specs.Outcome.{Outcome, refuse}
 use Rattle.model.specs.Decoder.{Decoder, heldIndex, heldSize, lookup, deleteOf, nameBytes, isSome, insertNamed, deleteEntry, readInstruction}
-use Rattle.model.specs.Decoder.{giveFields, decodePart, decodeBlock, endStream, holdOf, enquireHold}
+use Rattle.model.specs.Decoder.{giveFields, decodePart, decodeBlock, endStream, holdOf, enquireHold, Held, nextFreed, freeEntry, collectEntry}
 use Rattle.state.specs.Layout.{decoderLength}
 use Rattle.state.specs.DecoderState.{decoderOf, overlayDecoder}
 use Rattle.state.specs.Forms.{formsDecoder}
 use Rattle.parts.specs.Turn.{partTurn}
 use Rattle.reply.specs.Reply.{Narrow}
 use Rattle.reply.specs.Result.{Result, refused, stepped}
-use Rattle.decoder.specs.Calls.{startCall, readCall, onBlock, blockCall, endedCall, holdCall}
+use Rattle.decoder.specs.Calls.{startCall, readCall, onBlock, blockCall, endedCall, holdCall, collectCall}
 use Rattle.decoder.proofs.Holding.{lowest-low}
 
 -- a reply is as narrow as the answer that it is
@@ -94,6 +94,14 @@ hold-narrow D i =
     go none = omega arith
     go (some d) = omega (arith, lowest-low (D .finished) d _ refl)
 
+collect-narrow : (D : Decoder) (room : ℕ) → Narrow (collectEntry D room .answer)
+unfolding collectEntry freeEntry
+collect-narrow D room = go (nextFreed D)
+  where
+    go : (o : Option Held) → Narrow (freeEntry D room o .answer)
+    go none = omega arith
+    go (some h) = step (leb (length (instructionWire (acknowledge (h .index)))) room) _ _ _ (omega arith)
+
 -- ---- the decoder's calls
 
 pub start-call : (m : List ℕ) (limit : ℕ) → Narrow (startCall m limit .answer)
@@ -127,3 +135,7 @@ ended-call m stream = call (formsDecoder m) _ _ _ _ (end-narrow (decoderOf m) st
 pub hold-call : (m : List ℕ) (index : ℕ) → Narrow (holdCall m index .answer)
 unfolding holdCall stepped
 hold-call m index = call (formsDecoder m) _ _ _ _ (hold-narrow (decoderOf m) index)
+
+pub collect-call : (m out : List ℕ) → Narrow (collectCall m out .answer)
+unfolding collectCall stepped
+collect-call m out = call (formsDecoder m) _ _ _ _ (collect-narrow (decoderOf m) (length out))

@@ -1,12 +1,13 @@
 // The decoder's calls.
 ghost use mathlib.Core.Path.{_≡_};
 ghost use Rattle.reply.specs.Reply.{packed};
-ghost use Rattle.decoder.specs.Calls.{startCall, readCall, blockCall, endedCall, holdCall};
+ghost use Rattle.decoder.specs.Calls.{startCall, readCall, blockCall, endedCall, holdCall, collectCall};
 use decoder::ended::ended;
 use decoder::enquiry::enquire;
 use decoder::read::read;
 use decoder::start::start;
 use decoder_block::block::block;
+use decoder_collect::collect::collect;
 
 #[no_mangle]
 pub extern "C" fn kolowrotan_decoder_start(memory: &mut [u8], limit: u64) -> u64
@@ -56,5 +57,15 @@ pub extern "C" fn kolowrotan_decoder_hold(memory: &[u8], index: u64) -> u64
     ensures { λ r. ⌜ r ≡ packed (holdCall (now (memory .entry)) index .answer) ⌝ }
 {
     let r = enquire(memory, index);
+    r.pack()
+}
+
+#[no_mangle]
+pub extern "C" fn kolowrotan_decoder_collect(memory: &mut [u8], output: &mut [u8]) -> u64
+    ensures { λ r. ⌜ r ≡ packed (collectCall (now (memory .entry)) (now (output .entry)) .answer) ⌝ }
+    ensures { λ _. ⌜ now (memory .exit) ≡ collectCall (now (memory .entry)) (now (output .entry)) .memory ⌝ }
+    ensures { λ _. ⌜ now (output .exit) ≡ collectCall (now (memory .entry)) (now (output .entry)) .output ⌝ }
+{
+    let r = collect(memory, output);
     r.pack()
 }

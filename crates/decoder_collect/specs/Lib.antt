@@ -1,0 +1,2 @@
+-- Which row's entry is ready.
+pub mod Ready
