@@ -2,8 +2,6 @@
 pub mod Leaving
 pub mod Standing
 pub mod Taking
-pub mod Naming
 pub mod Starting
-pub mod Inserting
 pub mod Deleting
 pub mod Acknowledging

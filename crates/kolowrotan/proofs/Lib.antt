@@ -1,1 +1,3 @@
+-- The told numbers fit: for each end.
 pub mod Narrow
+pub mod NarrowEncoder

@@ -40,11 +40,11 @@ pub narrow : {a b : Answer} → a ≡ b → Narrow b → Narrow a
 narrow e h = subst (λ (x : Answer). Narrow x) (sym e) h
 
 -- a refusal tells nothing: only what follows a test counts
-step : {S : Type 0} (b : Bool) (s : S) (number : ℕ) (o : Outcome S) → Narrow (o .answer) → Narrow (need b (refuse s number) o .answer)
+pub step : {S : Type 0} (b : Bool) (s : S) (number : ℕ) (o : Outcome S) → Narrow (o .answer) → Narrow (need b (refuse s number) o .answer)
 step true s number o h = h
 step false s number o h = omega arith
 
-call : (b : Bool) (m out : List ℕ) (number : ℕ) (r : Result) → Narrow (r .answer) → Narrow (need b (refused m out number) r .answer)
+pub call : (b : Bool) (m out : List ℕ) (number : ℕ) (r : Result) → Narrow (r .answer) → Narrow (need b (refused m out number) r .answer)
 call true m out number r h = h
 call false m out number r h = omega arith
 

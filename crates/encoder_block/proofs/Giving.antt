@@ -1,0 +1,243 @@
+-- The block call's equations, one for each way through it. By the tests along that way; a refusal leaves memory and output, as a state that memory forms is
+-- over it already.
+use Prim.Native.Nat.{ℕ, _+_, _*_, _≤_, _<_}
+use mathlib.Core.Path.{_≡_, refl, sym, ap, ap₂, subst, _∙_}
+use native.Mathlib.Omega.{arith}
+use mathlib.Core.Bool.{true, false}
+use mathlib.Core.Option.{Option, none, some}
+use mathlib.Core.List.{List, map}
+use lib.Dec.{ltb, leb, eqb}
+use lib.ListN.{length, take}
+use borrow.Author.Tests.{ltb-true, lt-ltb, le-leb, lt-leb}
+use Rattle.memory.specs.Choice.{pick}
+use Rattle.memory.specs.Bytes.{Small, overlay}
+use Rattle.memory.proofs.Order.{need-true, need-false}
+use Rattle.memory.proofs.Places.{part-overlay}
+use Rattle.integers.specs.Answers.{Answer, done, refusal}
+use Rattle.marks.specs.Marks.{cleared}
+use Rattle.fields.specs.Form.{Field, AllFine as AllFineFields}
+use Rattle.fields.specs.Reading.{ListRead, list, readList, listAnswer}
+use Rattle.fields.specs.Reading as reading
+use Rattle.fields.proofs.Lists.{list-forth}
+use Rattle.blocks.specs.Representation.{Representation, AllFine, blockWire}
+use Rattle.blocks.specs.Reading.{BlockRead, block, readBlock}
+use Rattle.blocks.proofs.Back.{block-back}
+use Rattle.model.specs.Parts.{Part, nontrailer, trailer, partOf, Marks, inTurn, streams}
+use Rattle.model.specs.Outcome.{Outcome, refuse, outputBytes}
+use Rattle.model.specs.Encoder.{Encoder, FormsEncoder, choose, writePart, encodePart, encodeBlock}
+use Rattle.model.proofs.Tables.{nope, pick-eq, pick-yes, pick-no}
+use Rattle.model.proofs.Marks.{and-both}
+use Rattle.state.specs.Layout.{marksPlace}
+use Rattle.state.specs.Front.{marksOf}
+use Rattle.state.specs.EncoderState.{encoderOf, overlayEncoder}
+use Rattle.state.specs.Forms.{formsEncoder}
+use Rattle.state_laws.proofs.EncoderLaws.{encoder-laws}
+use Rattle.state_laws.proofs.EncoderForms.{forms-holds-encoder}
+use Rattle.state_laws.proofs.EncoderOverlay.{overlay-self-encoder}
+use Rattle.parts.specs.Turn.{partTurn}
+use Rattle.reply.specs.Result.{Result, refused, stepped}
+use Rattle.encoder.specs.Calls.{onList, blockCall}
+use Rattle.encoder_fields.specs.Measure.{fieldsIn, representationsOf}
+use Rattle.encoder_fields.specs.Refer.{partAt, AllHeld, entered, blockOf}
+use Rattle.encoder_fields.proofs.Chosen.{all-fine, all-held}
+use Rattle.encoder_block.proofs.Entering.{entered-length, entered-written}
+
+-- ---- a result, part by part, as a function's contract has it
+
+abbrev pub Tells : Result → Answer → List ℕ → List ℕ → Type 0
+Tells r answer memory output = (answer ≡ r .answer) × ((memory ≡ r .memory) × (output ≡ r .output))
+
+tells : (r x : Result) → r ≡ x → (answer : Answer) (memory output : List ℕ) → answer ≡ x .answer → memory ≡ x .memory → output ≡ x .output
+    → Tells r answer memory output
+tells r x e answer memory output a m o =
+    (a ∙ sym (ap (λ (t : Result). t .answer) e), (m ∙ sym (ap (λ (t : Result). t .memory) e), o ∙ sym (ap (λ (t : Result). t .output) e)))
+
+pub tells-refused : (r : Result) (m out : List ℕ) (number : ℕ) → r ≡ refused m out number → (answer : Answer) → answer ≡ refusal number → Tells r answer m out
+tells-refused r m out number e answer a = tells r (refused m out number) e answer m out a refl refl
+
+-- ---- a part in turn
+
+pub record InTurn (marks : Marks) (stream part : ℕ) : Type 0 where
+  pub low : part ≤ 1
+  pub is : partOf part ≡ some (partAt part)
+  pub below : stream < streams
+  pub turn : inTurn marks stream (partAt part) ≡ true
+  pub place : marksPlace (partAt part) ≡ 64 + 512 * part
+
+module _ (marks : Marks) (stream part : ℕ) where
+  turned : (p : Part) → partAt part ≡ p → part ≤ 1 → partOf part ≡ some p → marksPlace p ≡ 64 + 512 * part → partTurn marks stream (some p) ≡ true
+      → InTurn marks stream part
+  unfolding partTurn
+  turned p e low is place h =
+      let b = and-both (ltb stream streams) (inTurn marks stream p) h in
+      record {
+        low = low;
+        is = is ∙ ap some (sym e);
+        below = ltb-true stream streams (b .0);
+        turn = ap (inTurn marks stream) e ∙ b .1;
+        place = ap marksPlace e ∙ place;
+      }
+
+  pub in-turn : partTurn marks stream (partOf part) ≡ true → InTurn marks stream part
+  unfolding partOf partTurn
+  in-turn h =
+      pick-eq (λ (o : Option Part). partOf part ≡ o → partTurn marks stream o ≡ true → InTurn marks stream part) part 0 (some nontrailer)
+      (pick (eqb part 1) (some trailer) none)
+      (λ e is. turned nontrailer (pick-yes part 0 nontrailer trailer e) (omega arith) is (omega arith))
+      (λ n. pick-eq (λ (o : Option Part). partOf part ≡ o → partTurn marks stream o ≡ true → InTurn marks stream part) part 1 (some trailer) none
+      (λ e is. turned trailer (pick-no part 0 nontrailer trailer n) (omega arith) is (omega arith))
+      (λ k is t. nope (cc)))
+      refl h
+
+-- ---- a field list
+
+-- a number that is told and not 0 is that of a refusal
+pub list-refused : (r : ListRead) → (listAnswer r .number ≡ 0 → ⊥) → r ≡ reading.ListRead.refused (listAnswer r .number)
+list-refused (list fs) n = absurd (n refl)
+list-refused (reading.ListRead.refused number) n = refl
+
+-- ---- the call
+
+pub written-marks : (m : List ℕ) → marksOf m ≡ encoderOf m .written
+unfolding encoderOf
+written-marks m = refl
+
+module _ (m : List ℕ) (stream part : ℕ) (s out : List ℕ) where
+  pub not-formed : formsEncoder m ≡ false → blockCall m stream part s out ≡ refused m out 17
+  unfolding blockCall
+  not-formed e = need-false (formsEncoder m) _ _ e
+
+  module _ (forms : formsEncoder m ≡ true) where
+    pub not-in-turn : partTurn (encoderOf m .written) stream (partOf part) ≡ false → blockCall m stream part s out ≡ refused m out 11
+    unfolding blockCall
+    not-in-turn e = need-true (formsEncoder m) _ _ forms ∙ need-false (partTurn (encoderOf m .written) stream (partOf part)) _ _ e
+
+    module _ (turn : partTurn (encoderOf m .written) stream (partOf part) ≡ true) where
+      after-turn : blockCall m stream part s out
+          ≡ onList (refused m out) (readList s) (λ fs. stepped overlayEncoder m out (encodeBlock (encoderOf m) stream part fs (length out)))
+      unfolding blockCall
+      after-turn = need-true (formsEncoder m) _ _ forms ∙ need-true (partTurn (encoderOf m .written) stream (partOf part)) _ _ turn
+
+      pub not-a-list : (number : ℕ) → readList s ≡ reading.ListRead.refused number → blockCall m stream part s out ≡ refused m out number
+      not-a-list number e =
+          after-turn
+          ∙ ap (λ (r : ListRead). onList (refused m out) r (λ fs. stepped overlayEncoder m out (encodeBlock (encoderOf m) stream part fs (length out)))) e
+
+-- ---- a block in turn whose list reads well
+
+pub record Ready (m : List ℕ) (stream part : ℕ) (s : List ℕ) : Type 0 where
+  pub small : Small m
+  pub bytes : Small s
+  pub forms : formsEncoder m ≡ true
+  pub turn : partTurn (encoderOf m .written) stream (partOf part) ≡ true
+  pub fields : List Field
+  pub read : readList s ≡ list fields
+
+-- the output with the block in it
+pub record Written (m s out : List ℕ) (n : ℕ) (new : List ℕ) : Type 0 where
+  pub short : n ≤ 16384
+  pub room : n ≤ length out
+  pub is : n ≡ length (blockWire (representationsOf m s))
+  pub over : new ≡ overlay out 0 (blockWire (representationsOf m s))
+
+module _ {m : List ℕ} {stream part : ℕ} {s : List ℕ} (R : Ready m stream part s) where
+  abbrev E : Encoder
+  E = encoderOf m
+
+  abbrev rs : List Representation
+  rs = representationsOf m s
+
+  abbrev size : ℕ
+  size = length (blockWire rs)
+
+  pub its-turn : InTurn (E .written) stream part
+  its-turn = in-turn (E .written) stream part (R .turn)
+
+  pub long-memory : 16960 ≤ length m
+  long-memory = forms-holds-encoder m (R .small) (R .forms) .long
+
+  module _ (out : List ℕ) where
+    abbrev write : Outcome Encoder
+    write = writePart E stream (partAt part) rs (length out)
+
+    encoded : encodeBlock E stream part (R .fields) (length out) ≡ write
+    unfolding encodeBlock encodePart
+    encoded =
+        ap (λ (o : Option Part). encodePart E stream o (R .fields) (length out)) (its-turn .is)
+        ∙ need-true (ltb stream streams) _ _ (lt-ltb stream streams (its-turn .below))
+        ∙ need-true (inTurn (E .written) stream (partAt part)) _ _ (its-turn .turn)
+        ∙ ap (λ (r : ListRead). writePart E stream (partAt part) (map (choose (E .entries)) (fieldsIn r)) (length out)) (sym (R .read))
+
+    call : blockCall m stream part s out ≡ stepped overlayEncoder m out write
+    call =
+        after-turn m stream part s out (R .forms) (R .turn)
+        ∙ ap (λ (r : ListRead). onList (refused m out) r (λ fs. stepped overlayEncoder m out (encodeBlock E stream part fs (length out)))) (R .read)
+        ∙ ap (stepped overlayEncoder m out) encoded
+
+    refuses : (number : ℕ) → write ≡ refuse E number → blockCall m stream part s out ≡ refused m out number
+    unfolding stepped outputBytes
+    refuses number e =
+        call
+        ∙ ap (stepped overlayEncoder m out) e
+        ∙ ap (λ (l : List ℕ). refused l out number) (overlay-self-encoder E m (forms-holds-encoder m (R .small) (R .forms)))
+
+    pub too-long : 16384 < size → blockCall m stream part s out ≡ refused m out 13
+    unfolding writePart
+    too-long h = refuses 13 (need-false (leb size 16384) _ _ (lt-leb size 16384 h))
+
+    pub no-room : size ≤ 16384 → length out < size → blockCall m stream part s out ≡ refused m out 12
+    unfolding writePart
+    no-room short h =
+        refuses 12 (need-true (leb size 16384) _ _ (le-leb size 16384 short) ∙ need-false (leb size (length out)) _ _ (lt-leb size (length out) h))
+
+    given : size ≤ 16384 → size ≤ length out → blockCall m stream part s out ≡ record {
+      answer = done size 0;
+      memory = cleared (entered m stream part rs) (64 + 512 * part) stream;
+      output = overlay out 0 (blockWire rs);
+    }
+    unfolding writePart stepped outputBytes
+    given short room =
+        call
+        ∙ ap (stepped overlayEncoder m out)
+        (need-true (leb size 16384) _ _ (le-leb size 16384 short) ∙ need-true (leb size (length out)) _ _ (le-leb size (length out) room))
+        ∙ ap (λ (l : List ℕ). record { answer = done size 0; memory = l; output = overlay out 0 (blockWire rs) })
+        (sym (entered-written m (R .small) (R .forms) stream (its-turn .below) part rs)
+        ∙ ap (λ (at : ℕ). cleared (entered m stream part rs) at stream) (its-turn .place))
+
+    -- the block written: read again it is the block, and all that it names is static or held
+    module _ (n : ℕ) (new : List ℕ) (W : Written m s out n new) where
+      front : take n new ≡ blockWire rs
+      front = ap₂ take (W .is) (W .over) ∙ part-overlay out 0 (blockWire rs) (omega (arith, W .is, W .room))
+
+      pub front-length : n ≡ length (take n new)
+      front-length = W .is ∙ ap length (sym front)
+
+      forms-state : FormsEncoder E
+      forms-state = encoder-laws .fits m (R .small) (R .forms) .forms
+
+      fine-fields : AllFineFields (R .fields)
+      fine-fields = list-forth s (R .bytes) (R .fields) (R .read) .1
+
+      chosen-all : map (choose (E .entries)) (R .fields) ≡ rs
+      chosen-all = ap (λ (r : ListRead). map (choose (E .entries)) (fieldsIn r)) (sym (R .read))
+
+      pub front-reads : readBlock (take n new) ≡ block rs
+      front-reads =
+          ap readBlock front
+          ∙ block-back rs (subst AllFine chosen-all (all-fine E forms-state (R .fields) fine-fields)) (omega (arith, W .is, W .short))
+
+      pub front-held : AllHeld (E .entries) (blockOf (readBlock (take n new)))
+      front-held =
+          subst (AllHeld (E .entries)) (chosen-all ∙ ap blockOf (sym front-reads)) (all-held E forms-state (R .fields) fine-fields)
+
+      module _ (refers : List ℕ) (e : refers ≡ entered m stream part (blockOf (readBlock (take n new)))) where
+        pub refers-length : length refers ≡ length m
+        refers-length = ap length e ∙ entered-length m (R .small) (R .forms) stream (its-turn .below) part _
+
+        -- the call's result, by what its steps leave
+        pub gives : (answer : Answer) (marked : List ℕ) (place : ℕ) → answer ≡ done n 0 → place ≡ 64 + 512 * part → marked ≡ cleared refers place stream
+            → Tells (blockCall m stream part s out) answer marked new
+        gives answer marked place a p c =
+            tells _ _ (given (omega (arith, W .is, W .short)) (omega (arith, W .is, W .room))) answer marked new (a ∙ ap (λ (k : ℕ). done k 0) (W .is))
+            (c ∙ ap₂ (λ (l : List ℕ) (at : ℕ). cleared l at stream) (e ∙ ap (λ (r : BlockRead). entered m stream part (blockOf r)) front-reads) p)
+            (W .over)

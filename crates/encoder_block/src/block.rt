@@ -1,0 +1,69 @@
+// The block call: 17, 11, the list (16, 13), block length 13, 12. Nothing is written before all of these have passed.
+ghost use mathlib.Core.Path.{_≡_};
+ghost use mathlib.Core.Bool.{true};
+ghost use Rattle.model.specs.Parts.{partOf};
+ghost use Rattle.state.specs.EncoderState.{encoderOf};
+ghost use Rattle.state.specs.Forms.{formsEncoder};
+ghost use Rattle.parts.specs.Turn.{partTurn};
+ghost use Rattle.reply.specs.Reply.{answerOf};
+ghost use Rattle.encoder.specs.Calls.{blockCall};
+ghost use Rattle.encoder_fields.specs.Measure.{ReadsWell};
+use crate::refer::refer_block;
+use blocks::read::BLOCK_LIMIT;
+use encoder_fields::measure::measure;
+use encoder_fields::write::write_block;
+use fields::read::check_list;
+use integers::answer::NO_ROOM;
+use integers::answer::NO_STATE;
+use integers::answer::OUT_OF_TURN;
+use integers::answer::TOO_LONG;
+use integers::number::StreamNumber;
+use marks::mark::clear;
+use parts::in_turn;
+use parts::marks_place;
+use reply::Reply;
+use state::encoder::forms_encoder;
+use statics::table::static_text;
+
+// A block in turn whose list reads well: 13, 12, or its bytes, its references, and its part written.
+fn give(m: &mut [u8], stream: u64, part: u64, s: &[u8], out: &mut [u8]) -> Reply
+    requires { ⌜ (formsEncoder (now m) ≡ true) × (partTurn (encoderOf (now m) .written) stream (partOf part) ≡ true) ⌝ }
+    requires { ⌜ ReadsWell (now s) ⌝ }
+    ensures { λ r. ⌜ answerOf r ≡ blockCall (now (m .entry)) stream part (now (s .entry)) (now (out .entry)) .answer ⌝ }
+    ensures { λ _. ⌜ now (m .exit) ≡ blockCall (now (m .entry)) stream part (now (s .entry)) (now (out .entry)) .memory ⌝ }
+    ensures { λ _. ⌜ now (out .exit) ≡ blockCall (now (m .entry)) stream part (now (s .entry)) (now (out .entry)) .output ⌝ }
+{
+    let text = static_text();
+    let n = measure(&text, m, s);
+    if BLOCK_LIMIT < n {
+        return Reply::refused(TOO_LONG);
+    }
+    if out.len() < n {
+        return Reply::refused(NO_ROOM);
+    }
+    write_block(&text, m, s, out);
+    let number = StreamNumber {
+        value: stream as u16,
+    };
+    refer_block(m, number, part, &out[..n]);
+    clear(m, marks_place(part), number);
+    Reply::done(n as u32, 0)
+}
+
+pub fn block(m: &mut [u8], stream: u64, part: u64, s: &[u8], out: &mut [u8]) -> Reply
+    ensures { λ r. ⌜ answerOf r ≡ blockCall (now (m .entry)) stream part (now (s .entry)) (now (out .entry)) .answer ⌝ }
+    ensures { λ _. ⌜ now (m .exit) ≡ blockCall (now (m .entry)) stream part (now (s .entry)) (now (out .entry)) .memory ⌝ }
+    ensures { λ _. ⌜ now (out .exit) ≡ blockCall (now (m .entry)) stream part (now (s .entry)) (now (out .entry)) .output ⌝ }
+{
+    if !forms_encoder(m) {
+        return Reply::refused(NO_STATE);
+    }
+    if !in_turn(m, stream, part) {
+        return Reply::refused(OUT_OF_TURN);
+    }
+    let checked = check_list(s);
+    if checked != 0 {
+        return Reply::refused(checked);
+    }
+    give(m, stream, part, s, out)
+}

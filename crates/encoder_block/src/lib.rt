@@ -1,0 +1,3 @@
+// The encoder's block call: a field list in, a header block out.
+pub mod block;
+pub mod refer;

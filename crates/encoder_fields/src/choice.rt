@@ -1,0 +1,119 @@
+// The representation of a field: flag 1 is a literal with N; else the lowest static entry with name and value, else the lowest such entry of the header
+// table not under deletion, else a literal. A literal's name is by index where either table has it.
+ghost use mathlib.Core.Path.{_≡_};
+ghost use mathlib.Core.Bool.{true};
+ghost use Prim.Native.Nat.{_≤_, _<_};
+ghost use lib.ListN.{length};
+ghost use Rattle.statics.specs.Table.{staticText};
+ghost use Rattle.statics.specs.Search.{findName};
+ghost use Rattle.fields.specs.Reading.{InText, textOf, fieldOf};
+ghost use Rattle.blocks.specs.Representation.{literal};
+ghost use Rattle.model.specs.Encoder.{chooseName};
+ghost use Rattle.state.specs.Layout.{indexAt};
+ghost use Rattle.state.specs.EncoderState.{encoderOf};
+ghost use Rattle.state.specs.Forms.{formsEncoder};
+ghost use Rattle.encoder_fields.specs.Measure.{InField, chosen, fieldWith, Chooses};
+use fields::read::FieldPlace;
+use fields::read::TextPlace;
+use integers::number::TableIndex;
+use memory::number::u32_at;
+use search::names::Sought;
+use state::layout::row_place;
+use statics::search::StaticFound;
+
+pub enum Choice {
+    // Name and value by index.
+    Indexed(TableIndex),
+    // A literal, its name by index.
+    Named(TableIndex),
+    // A literal, its name by its bytes.
+    Literal,
+}
+
+// The name or the value of the field list that stands there.
+pub fn text_at(s: &[u8], place: TextPlace) -> &[u8]
+    requires { ⌜ InText (now s) place ⌝ }
+    ensures { λ r. ⌜ now r ≡ textOf (now (s .entry)) place ⌝ }
+{
+    let start = place.start;
+    let end = start + place.length;
+    &s[start..end]
+}
+
+// The index of the entry in row `place`.
+fn index_at(m: &[u8], place: usize) -> TableIndex
+    requires { ⌜ (place < 128) × (7232 ≤ length (now m)) ⌝ }
+    ensures { λ r. ⌜ r ≡ record { value = indexAt (now (m .entry)) place } ⌝ }
+{
+    TableIndex {
+        value: u32_at(m, row_place(place)),
+    }
+}
+
+// A field whose name the static table has, at this index first.
+fn choose_static(
+    text: &[u8],
+    m: &[u8],
+    flag: u8,
+    i: TableIndex,
+    name: &[u8],
+    value: &[u8],
+) -> Choice
+    requires { ⌜ now text ≡ staticText ⌝ }
+    requires { ⌜ (formsEncoder (now m) ≡ true) × (flag < 2) × (length (now name) ≤ 255) × (length (now value) ≤ 2047) ⌝ }
+    requires { ⌜ findName (now name) ≡ StaticFound.At i ⌝ }
+    ensures { λ r. ⌜ Chooses (now (m .entry)) (fieldWith flag (now (name .entry)) (now (value .entry))) r ⌝ }
+{
+    if flag == 1 {
+        return Choice::Named(i);
+    }
+    match statics::search::find_both(text, name, value, i.value) {
+        StaticFound::At(j) => Choice::Indexed(j),
+        StaticFound::Nothing => match search::names::find_both(m, name, value) {
+            Sought::Row(place) => Choice::Indexed(index_at(m, place)),
+            Sought::Nothing => Choice::Named(i),
+        },
+    }
+}
+
+// A literal whose name the static table has not.
+fn choose_literal(m: &[u8], flag: u8, name: &[u8], value: &[u8]) -> Choice
+    requires { ⌜ formsEncoder (now m) ≡ true ⌝ }
+    requires { ⌜ findName (now name) ≡ StaticFound.Nothing ⌝ }
+    ensures { λ r. ⌜ chosen (fieldWith flag (now (name .entry)) (now (value .entry))) r
+        ≡ literal flag (chooseName (encoderOf (now (m .entry)) .entries) (now (name .entry))) (now (value .entry)) ⌝ }
+{
+    match search::names::find_name(m, name) {
+        Sought::Row(place) => Choice::Named(index_at(m, place)),
+        Sought::Nothing => Choice::Literal,
+    }
+}
+
+// A field whose name the static table has not.
+fn choose_dynamic(m: &[u8], flag: u8, name: &[u8], value: &[u8]) -> Choice
+    requires { ⌜ (formsEncoder (now m) ≡ true) × (flag < 2) × (length (now name) ≤ 255) × (length (now value) ≤ 2047) ⌝ }
+    requires { ⌜ findName (now name) ≡ StaticFound.Nothing ⌝ }
+    ensures { λ r. ⌜ Chooses (now (m .entry)) (fieldWith flag (now (name .entry)) (now (value .entry))) r ⌝ }
+{
+    if flag == 1 {
+        return choose_literal(m, flag, name, value);
+    }
+    match search::names::find_both(m, name, value) {
+        Sought::Row(place) => Choice::Indexed(index_at(m, place)),
+        Sought::Nothing => choose_literal(m, flag, name, value),
+    }
+}
+
+// The field of the list `s` that stands there.
+pub fn choose_field(text: &[u8], m: &[u8], s: &[u8], f: FieldPlace) -> Choice
+    requires { ⌜ (now text ≡ staticText) × (formsEncoder (now m) ≡ true) ⌝ }
+    requires { ⌜ InField (now s) f ⌝ }
+    ensures { λ r. ⌜ Chooses (now (m .entry)) (fieldOf (now (s .entry)) f) r ⌝ }
+{
+    let name = text_at(s, f.name);
+    let value = text_at(s, f.value);
+    match statics::search::find_name(text, name) {
+        StaticFound::At(i) => choose_static(text, m, f.flag, i, name, value),
+        StaticFound::Nothing => choose_dynamic(m, f.flag, name, value),
+    }
+}

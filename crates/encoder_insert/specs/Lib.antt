@@ -1,0 +1,2 @@
+-- The encoder's insert call.
+pub mod Steps

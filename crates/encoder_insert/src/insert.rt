@@ -1,0 +1,108 @@
+// The insert call: name and value as plain bytes in, the instruction out: 17, 13, 7, 15, 12.
+ghost use mathlib.Core.Path.{_≡_};
+ghost use mathlib.Core.Bool.{true};
+ghost use Prim.Native.Nat.{ℕ, _+_, _≤_, _<_};
+ghost use lib.ListN.{length};
+ghost use Rattle.state.specs.Layout.{countOf, heldOf};
+ghost use Rattle.state.specs.Forms.{formsEncoder};
+ghost use Rattle.search.specs.Search.{vacantFrom};
+ghost use Rattle.table.specs.Changes.{inserted};
+ghost use Rattle.deletes.specs.Deletes.{unreferred};
+ghost use Rattle.reply.specs.Reply.{answerOf};
+ghost use Rattle.encoder.specs.Calls.{insertCall};
+ghost use Rattle.encoder_insert.specs.Steps.{Fitting, fittingInsert};
+use crate::choice::NameChoice;
+use crate::choice::choose_name;
+use deletes::references::unrefer;
+use instructions::write::write_insert_index;
+use instructions::write::write_insert_text;
+use integers::answer::FULL;
+use integers::answer::NO_ROOM;
+use integers::answer::NO_STATE;
+use integers::answer::OVER_LIMIT;
+use integers::answer::TOO_LONG;
+use integers::number::TableIndex;
+use memory::number::u16_at;
+use reply::Reply;
+use search::find::lowest_vacant;
+use sizes::insert_index_size;
+use sizes::insert_text_size;
+use state::encoder::forms_encoder;
+use state::layout::COUNT;
+use state::layout::FIRST_INDEX;
+use state::layout::HELD;
+use state::layout::LIMIT;
+use state::layout::PLACES;
+use statics::table::static_text;
+use wire::text::NAME_LIMIT;
+use wire::text::VALUE_LIMIT;
+
+// Puts the entry in at its place, referred to by no block.
+fn enter(m: &mut [u8], place: usize, index: TableIndex, name: &[u8], value: &[u8])
+    requires { ⌜ (place ≡ vacantFrom (now m) (countOf (now m)) 0) × (index .value ≡ 62 + place) × (formsEncoder (now m) ≡ true) ⌝ }
+    requires { ⌜ (heldOf (now m) + (length (now name) + length (now value) + 32) ≤ 4096) × (countOf (now m) < 128) ⌝ }
+    ensures { λ _. ⌜ now (m .exit) ≡ unreferred (inserted (now (m .entry)) place (index .value) (now (name .entry)) (now (value .entry))) (index .value) ⌝ }
+{
+    table::insert::insert(m, place, index, name, value);
+    unrefer(m, index);
+}
+
+// An entry that keeps the limit, with a place left: 12, or its insert.
+fn insert_fitting(m: &mut [u8], name: &[u8], value: &[u8], out: &mut [u8]) -> Reply
+    requires { ⌜ formsEncoder (now m) ≡ true ⌝ }
+    requires { ⌜ Fitting (now m) (now name) (now value) ⌝ }
+    ensures { λ r. ⌜ answerOf r ≡ fittingInsert (now (m .entry)) (now (name .entry)) (now (value .entry)) (now (out .entry)) .answer ⌝ }
+    ensures { λ _. ⌜ now (m .exit) ≡ fittingInsert (now (m .entry)) (now (name .entry)) (now (value .entry)) (now (out .entry)) .memory ⌝ }
+    ensures { λ _. ⌜ now (out .exit) ≡ fittingInsert (now (m .entry)) (now (name .entry)) (now (value .entry)) (now (out .entry)) .output ⌝ }
+{
+    let text = static_text();
+    let choice = choose_name(&text, m, name);
+    let place = lowest_vacant(m);
+    let index = TableIndex {
+        value: FIRST_INDEX + (place as u32),
+    };
+    match choice {
+        NameChoice::Index(i) => {
+            let n = insert_index_size(index.value, i.value, value.len());
+            if out.len() < n {
+                return Reply::refused(NO_ROOM);
+            }
+            write_insert_index(index, i, value, out, 0);
+            enter(m, place, index, name, value);
+            Reply::done(n as u32, index.value)
+        }
+        NameChoice::Bytes => {
+            let n = insert_text_size(index.value, name.len(), value.len());
+            if out.len() < n {
+                return Reply::refused(NO_ROOM);
+            }
+            write_insert_text(index, name, value, out, 0);
+            enter(m, place, index, name, value);
+            Reply::done(n as u32, index.value)
+        }
+    }
+}
+
+pub fn insert(m: &mut [u8], name: &[u8], value: &[u8], out: &mut [u8]) -> Reply
+    ensures { λ r. ⌜ answerOf r ≡ insertCall (now (m .entry)) (now (name .entry)) (now (value .entry)) (now (out .entry)) .answer ⌝ }
+    ensures { λ _. ⌜ now (m .exit) ≡ insertCall (now (m .entry)) (now (name .entry)) (now (value .entry)) (now (out .entry)) .memory ⌝ }
+    ensures { λ _. ⌜ now (out .exit) ≡ insertCall (now (m .entry)) (now (name .entry)) (now (value .entry)) (now (out .entry)) .output ⌝ }
+{
+    if !forms_encoder(m) {
+        return Reply::refused(NO_STATE);
+    }
+    if NAME_LIMIT < name.len() {
+        return Reply::refused(TOO_LONG);
+    }
+    if VALUE_LIMIT < value.len() {
+        return Reply::refused(TOO_LONG);
+    }
+    let size = name.len() + value.len() + 32;
+    if (u16_at(m, LIMIT) as usize) < (u16_at(m, HELD) as usize) + size {
+        return Reply::refused(OVER_LIMIT);
+    }
+    if PLACES <= (u16_at(m, COUNT) as usize) {
+        return Reply::refused(FULL);
+    }
+    insert_fitting(m, name, value, out)
+}

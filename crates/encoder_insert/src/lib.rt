@@ -1,0 +1,3 @@
+// The encoder's insert call, and the choice of a name.
+pub mod choice;
+pub mod insert;

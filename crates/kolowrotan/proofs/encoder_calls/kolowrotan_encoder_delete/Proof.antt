@@ -1,0 +1,26 @@
+-- `kolowrotan_encoder_delete`: the call's answer is narrow, so it packs.
+use mathlib.Core.Path.{ap, _∙_}
+use Rattle.reply.specs.Reply.{packed}
+use Rattle.kolowrotan.proofs.Narrow.{narrow}
+use Rattle.kolowrotan.proofs.NarrowEncoder.{encoder-delete}
+use borrow.Author.Needs.{needs}
+use Rattle.kolowrotan.proofs.encoder_calls.kolowrotan_encoder_delete.Statement.{statement}
+use Rattle.kolowrotan.proofs.encoder_calls.kolowrotan_encoder_delete.Tie as tie
+
+delete-requires : tie.Need-delete-requires
+delete-requires c κs = search needs
+
+pack-requires : tie.Need-pack-requires
+pack-requires c κs = narrow (c .before .before .before .before .delete .ensures .0) (encoder-delete _ _ _)
+
+same-length : tie.Need-same-length
+same-length c = search needs
+
+same-length-2 : tie.Need-same-length-2
+same-length-2 c = search needs
+
+returns : tie.Need-returns
+returns c = (c .pack .ensures ∙ ap packed (c .before .before .before .before .before .delete .ensures .0), c .before .before .before .before .before .delete .ensures .1)
+
+pub kolowrotan-encoder-delete-spec : {M : Type 1} → statement M
+kolowrotan-encoder-delete-spec = tie.close (tie.spec delete-requires pack-requires same-length same-length-2 returns)
