@@ -1,14 +1,12 @@
 -- The same of the encoder's calls: the second told number is 0, but for an insert, which tells its index: at most 189, since a place was left.
-use mathlib.Core.Path.{_≡_}
-use Prim.Native.Nat.{ℕ, _+_, _≤_, _<_}
+use Prim.Native.Nat.{ℕ, _+_}
 use native.Mathlib.Omega.{arith}
-use mathlib.Core.Bool.{Bool, true, false, not}
+use mathlib.Core.Bool.{not}
 use mathlib.Core.Option.{Option, none, some}
 use mathlib.Core.List.{List, [], map}
 use lib.ListN.{length}
 use lib.Dec.{leb, ltb}
 use borrow.Author.Tests.{ltb-true}
-use Rattle.memory.specs.Choice.{need}
 use Rattle.memory.proofs.Order.{need-both}
 use Rattle.integers.specs.Answers.{full}
 use Rattle.integers.specs.Integer.{largest}
@@ -21,7 +19,7 @@ use Rattle.instructions.specs.declared.read.InstructionPlace.{InstructionPlace}
 use Rattle.instructions.specs.declared.read.InstructionPlace.the-variants.{Insert, Delete, Acknowledge}
 use Rattle.instructions.specs.declared.read.InstructionRead.{InstructionRead}
 use Rattle.instructions.specs.declared.read.InstructionRead.the-variants.{Found, Refused}
-use Rattle.blocks.specs.Representation.{Representation, blockWire}
+use Rattle.blocks.specs.Representation.{blockWire}
 use Rattle.model.specs.Table.{size, look, vacantFrom}
 use Rattle.model.specs.Parts.{Part, partOf, inTurn, streams}
 use Rattle.model.specs.Outcome.{Outcome, refuse}
@@ -33,7 +31,7 @@ use Rattle.state.specs.EncoderState.{encoderOf, overlayEncoder}
 use Rattle.state.specs.Forms.{formsEncoder}
 use Rattle.parts.specs.Turn.{partTurn}
 use Rattle.reply.specs.Reply.{Narrow}
-use Rattle.reply.specs.Result.{Result, refused, stepped}
+use Rattle.reply.specs.Result.{refused, stepped}
 use Rattle.encoder.specs.Calls.{startCall, insertCall, deleteCall, onList, blockCall, acknowledged, acknowledgeCall}
 use Rattle.kolowrotan.proofs.Narrow.{step, call}
 
@@ -64,9 +62,6 @@ block-narrow : (E : Encoder) (s part : ℕ) (fs : List Field) (room : ℕ) → N
 unfolding encodeBlock encodePart writePart
 block-narrow E s part fs room = go (partOf part)
   where
-    rs : List Representation
-    rs = map (choose (E .entries)) fs
-
     go : (o : Option Part) → Narrow (encodePart E s o fs room .answer)
     go none = omega arith
     go (some p) =
