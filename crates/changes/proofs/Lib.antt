@@ -26,6 +26,8 @@ pub mod DecoderInsert
 pub mod DecoderKeep
 pub mod DecoderFree
 pub mod DecoderClaim
+-- a place is always left
+pub mod Room
 -- the encoder: what searches find, entries about a place, their references, what each change leaves, and the claim
 pub mod EncoderSearches
 pub mod EncoderSplits
