@@ -1,0 +1,182 @@
+/*
+ * Kolowrotan: the header table of a link that speaks the February 2017 QPACK draft, encoder and decoder.
+ *
+ * An encoder turns field lists into header blocks, a decoder turns header blocks into field lists. Each has a table of entries that
+ * blocks refer to by index. The encoder fills the table of the decoder by management bytes; the decoder gives entries back by
+ * acknowledgement bytes. Every call below is proved to do what docs/CLAIMS.md says, for every input, refusals too.
+ *
+ * docs/HOST.md is the guide; docs/STATE.md has the state memory byte by byte.
+ *
+ * WHAT THE HOST OWES
+ *
+ *   - Every pointer is one to as many bytes as the length beside it says. It is never null: for length 0 give any other pointer.
+ *   - The buffers of one call do not overlap.
+ *   - Nobody else reads or writes them while the call runs, and nobody writes the memory of a table between calls. Calls on
+ *     different memories may run at the same time.
+ *
+ * WHAT EVERY CALL KEEPS
+ *
+ *   - No call keeps a pointer, allocates, waits, reads a clock, or prints. Every call returns.
+ *   - An answer other than KOLOWROTAN_DONE leaves the memory and every buffer as they were.
+ *   - On KOLOWROTAN_DONE only the told count of output bytes is written, from the front of the output.
+ *   - The first test that fails gives the answer. The comment at each call has its answers in the order of the tests.
+ *   - A told number that is not named at the call is 0.
+ */
+#ifndef KOLOWROTAN_H
+#define KOLOWROTAN_H
+
+#include <stddef.h>
+#include <stdint.h>
+
+#ifdef __cplusplus
+extern "C" {
+#endif
+
+/* The answers. */
+enum kolowrotan_answer {
+    KOLOWROTAN_DONE = 0,
+    KOLOWROTAN_WAITS = 1,              /* a block names a vacant index, which is told: keep the block and offer it again */
+    KOLOWROTAN_TRUNCATED = 2,          /* the bytes end inside an instruction or representation; no management bytes at all */
+    KOLOWROTAN_TOO_LARGE = 3,          /* an integer is too large or too long */
+    KOLOWROTAN_PACKED = 4,             /* a string's H bit is set */
+    KOLOWROTAN_NOT_ALLOWED = 5,        /* an index or instruction that is not allowed here; an index outside 62 to 2^27 - 1 */
+    KOLOWROTAN_HELD = 6,               /* an insert at an index that is held */
+    KOLOWROTAN_OVER_LIMIT = 7,         /* the limit is passed; a start limit above 4,096 */
+    KOLOWROTAN_VACANT = 8,             /* a vacant index: an insert's name, a delete, an enquiry */
+    KOLOWROTAN_UNDER_DELETION = 9,     /* a delete of an entry under deletion */
+    KOLOWROTAN_NOT_UNDER_DELETION = 10, /* an acknowledgement or an enquiry of an entry that is not under deletion */
+    KOLOWROTAN_OUT_OF_TURN = 11,       /* a stream above 4,095, a part that is neither 0 nor 1, or a part out of turn */
+    KOLOWROTAN_NO_ROOM = 12,           /* the lent output or memory is too small */
+    KOLOWROTAN_TOO_LONG = 13,          /* a string or block is too long */
+    KOLOWROTAN_BAD_STREAM_LIST = 14,   /* a bad stream list */
+    KOLOWROTAN_FULL = 15,              /* all 128 places are held */
+    KOLOWROTAN_BAD_FIELD_LIST = 16,    /* the field list is not in its form */
+    KOLOWROTAN_NO_STATE = 17           /* the memory forms no state of this end */
+};
+
+/* A result is answer + 2^8 * first + 2^40 * second: these take it apart. */
+#define KOLOWROTAN_ANSWER(result) ((int)((uint64_t)(result) & 0xFFu))
+#define KOLOWROTAN_FIRST(result) ((uint32_t)(((uint64_t)(result) >> 8) & 0xFFFFFFFFu))
+#define KOLOWROTAN_SECOND(result) ((uint32_t)((uint64_t)(result) >> 40))
+
+/* The bytes that each table takes, at any alignment. Longer memory is accepted and its rest is never touched. */
+#define KOLOWROTAN_DECODER_LENGTH 35912
+#define KOLOWROTAN_ENCODER_LENGTH 16960
+
+/* The same as functions: a host may compare them with the header that it was compiled with. */
+size_t kolowrotan_decoder_length(void);
+size_t kolowrotan_encoder_length(void);
+
+/* The largest of each. */
+#define KOLOWROTAN_LIMIT 4096         /* limit of a table */
+#define KOLOWROTAN_STREAMS 4096       /* message streams are numbered from 0 to one below this */
+#define KOLOWROTAN_ENTRIES 128        /* entries of a table */
+#define KOLOWROTAN_NAME_LENGTH 255
+#define KOLOWROTAN_VALUE_LENGTH 2047
+#define KOLOWROTAN_BLOCK_LENGTH 16384
+
+/* Room that is enough for what an encoder's insert or delete, or a collect, writes. */
+#define KOLOWROTAN_INSERT_ROOM 2310
+#define KOLOWROTAN_DELETE_ROOM 10
+#define KOLOWROTAN_COLLECT_ROOM 5
+
+/* The parts of a message. */
+#define KOLOWROTAN_NONTRAILER 0
+#define KOLOWROTAN_TRAILER 1
+
+/*
+ * FIELD LISTS
+ *
+ * Fields stand one after another: a byte 0 or 1 (1: never store), name length, name, value length, value. A length is in groups of
+ * seven bits, the low group first, the top bit set where another follows, in the shortest form: below 128 one byte, else two. The
+ * empty list is no bytes. A name has at most 255 bytes, a value at most 2,047. After decoding, a field has 1 where its literal has
+ * the N bit, and 0 else.
+ */
+
+/* ---- decoder ---- */
+
+/*
+ * Makes a fresh decoder's table with this limit in the memory, whatever stood there.
+ * Answers: 7 limit above 4,096; 12 memory shorter than KOLOWROTAN_DECODER_LENGTH; 0.
+ */
+uint64_t kolowrotan_decoder_start(uint8_t *memory, size_t memory_length, uint64_t limit);
+
+/*
+ * Reads one instruction, an insert or a delete, from the front of the management bytes. First told: the bytes that it took. Call it
+ * again with the rest. On 2 keep the bytes and call again when more have come.
+ * Answers: 17; the first of 2, 3, 4, 5, 13, 14 met in the bytes, left to right; an insert 8, 6, 7, 15; a delete 8, 9; 0.
+ */
+uint64_t kolowrotan_decoder_read(uint8_t *memory, size_t memory_length, const uint8_t *bytes, size_t bytes_length);
+
+/*
+ * Decodes a header block of a part of a stream: its field list is written to the output, and the part is finished. First told: the
+ * bytes written; on 1 the index that it waits for, the first in byte order. On 1 keep the block and offer it again later.
+ * Answers: 17; 11; 13 a block above 16,384 bytes; the first of 2, 3, 4, 5, 13 met in the bytes, left to right; 1; 12; 0.
+ */
+uint64_t kolowrotan_decoder_block(uint8_t *memory, size_t memory_length, uint64_t stream, uint64_t part,
+                                  const uint8_t *bytes, size_t bytes_length, uint8_t *output, size_t output_length);
+
+/*
+ * The stream has ended or was reset: both of its parts are finished. Saying it again is fine. Say it only when every block ever
+ * written on the stream was answered 0, or the stream was reset, and offer no block of it afterwards.
+ * Answers: 17; 11; 0.
+ */
+uint64_t kolowrotan_decoder_ended(uint8_t *memory, size_t memory_length, uint64_t stream);
+
+/*
+ * Frees the entry of lowest index that is under deletion and that no block can refer to any more, and writes its acknowledgement,
+ * which goes to the encoder. First told: the bytes written, 0 where no entry is ready. Call it until it writes 0 bytes.
+ * Answers: 17; 12; 0.
+ */
+uint64_t kolowrotan_decoder_collect(uint8_t *memory, size_t memory_length, uint8_t *output, size_t output_length);
+
+/*
+ * What holds an entry under deletion. First told: how many parts that its deletion names are unfinished; second told: the lowest
+ * stream having one, 4,096 if none. The memory is only read.
+ * Answers: 17; 5; 8; 10; 0.
+ */
+uint64_t kolowrotan_decoder_hold(const uint8_t *memory, size_t memory_length, uint64_t index);
+
+/* ---- encoder ---- */
+
+/*
+ * Makes a fresh encoder's table with this limit in the memory, whatever stood there. The limit must not be above the decoder's.
+ * Answers: 7 limit above 4,096; 12 memory shorter than KOLOWROTAN_ENCODER_LENGTH; 0.
+ */
+uint64_t kolowrotan_encoder_start(uint8_t *memory, size_t memory_length, uint64_t limit);
+
+/*
+ * Puts an entry into the table, at the lowest index from 62 that is not held, and writes its insert, which goes to the decoder.
+ * First told: the bytes written; second told: the index.
+ * Answers: 17; 13; 7; 15; 12; 0.
+ */
+uint64_t kolowrotan_encoder_insert(uint8_t *memory, size_t memory_length, const uint8_t *name, size_t name_length,
+                                   const uint8_t *value, size_t value_length, uint8_t *output, size_t output_length);
+
+/*
+ * Puts an entry under deletion and writes its delete, which goes to the decoder. No later block refers to the entry; it is held
+ * until its acknowledgement is read. First told: the bytes written.
+ * Answers: 17; 5; 8; 9; 12; 0.
+ */
+uint64_t kolowrotan_encoder_delete(uint8_t *memory, size_t memory_length, uint64_t index, uint8_t *output,
+                                   size_t output_length);
+
+/*
+ * Writes a field list as the header block of a part of a stream. First told: the bytes written.
+ * Answers: 17; 11; the first of 16, 13 met in the list, left to right; 13 a block above 16,384 bytes; 12; 0.
+ */
+uint64_t kolowrotan_encoder_block(uint8_t *memory, size_t memory_length, uint64_t stream, uint64_t part,
+                                  const uint8_t *list, size_t list_length, uint8_t *output, size_t output_length);
+
+/*
+ * Reads one acknowledgement from the front of the decoder's acknowledgement bytes: its entry is gone and its index is free. First
+ * told: the bytes that it took. Call it again with the rest. On 2 keep the bytes and call again when more have come.
+ * Answers: 17; the first of 2, 3, 5 met in the bytes, left to right; 10; 0.
+ */
+uint64_t kolowrotan_encoder_acknowledge(uint8_t *memory, size_t memory_length, const uint8_t *bytes, size_t bytes_length);
+
+#ifdef __cplusplus
+}
+#endif
+
+#endif
