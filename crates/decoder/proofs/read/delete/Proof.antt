@@ -90,7 +90,7 @@ append-delete-requires c κs =
     let row = c .before .before .before .before .before .before in
     let st = stands (row .before .before .before .before .before) in
     let room = changes _ st .room _ _ (place-found row) (omega (arith, status (c .before .before), c .before .if1 .left)) in
-    ((near row, omega arith, long _ st), row .before .before .before .before .before .before .pre .1)
+    ((near row, omega arith, long _ st), search needs)
 
 done-requires : tie.Need-done-requires
 done-requires c κs = search needs
