@@ -59,15 +59,7 @@ static void offer_waiting(struct receiver *receiver, receiver_take *take, void *
 void receiver_manage(struct receiver *receiver, const uint8_t *data, size_t length, receiver_take *take, void *context)
 {
     bytes_append(&receiver->management, data, length);
-    while (receiver->management.length != 0) {
-        uint64_t result = kolowrotan_decoder_read(receiver->table, sizeof receiver->table, receiver->management.data,
-                                                  receiver->management.length);
-        if (KOLOWROTAN_ANSWER(result) == KOLOWROTAN_TRUNCATED)
-            break; /* the rest of it comes later */
-        if (KOLOWROTAN_ANSWER(result) != KOLOWROTAN_DONE)
-            unexpected("decoder read", result);
-        bytes_take(&receiver->management, KOLOWROTAN_FIRST(result));
-    }
+    bytes_read(&receiver->management, kolowrotan_decoder_read, receiver->table, sizeof receiver->table);
     offer_waiting(receiver, take, context);
 }
 

@@ -1,30 +1,6 @@
 #include "sender.h"
 
-#include <stdio.h>
-#include <stdlib.h>
 #include <string.h>
-
-void unexpected(const char *call, uint64_t result)
-{
-    fprintf(stderr, "%s: answer %d\n", call, KOLOWROTAN_ANSWER(result));
-    exit(2);
-}
-
-void bytes_append(struct bytes *bytes, const uint8_t *data, size_t length)
-{
-    if (sizeof bytes->data - bytes->length < length) {
-        fprintf(stderr, "too many bytes on their way\n");
-        exit(2);
-    }
-    memcpy(bytes->data + bytes->length, data, length);
-    bytes->length += length;
-}
-
-void bytes_take(struct bytes *bytes, size_t count)
-{
-    bytes->length -= count;
-    memmove(bytes->data, bytes->data + count, bytes->length);
-}
 
 void sender_start(struct sender *sender, uint64_t limit)
 {
@@ -76,17 +52,6 @@ void sender_report(struct sender *sender, const struct report *report, uint32_t 
 
 unsigned sender_acknowledge(struct sender *sender, const uint8_t *data, size_t length)
 {
-    unsigned gone = 0;
     bytes_append(&sender->acknowledgements, data, length);
-    while (sender->acknowledgements.length != 0) {
-        uint64_t result = kolowrotan_encoder_acknowledge(sender->table, sizeof sender->table, sender->acknowledgements.data,
-                                                         sender->acknowledgements.length);
-        if (KOLOWROTAN_ANSWER(result) == KOLOWROTAN_TRUNCATED)
-            break; /* the rest of it comes later */
-        if (KOLOWROTAN_ANSWER(result) != KOLOWROTAN_DONE)
-            unexpected("encoder acknowledge", result);
-        bytes_take(&sender->acknowledgements, KOLOWROTAN_FIRST(result));
-        gone++;
-    }
-    return gone;
+    return bytes_read(&sender->acknowledgements, kolowrotan_encoder_acknowledge, sender->table, sizeof sender->table);
 }

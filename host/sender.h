@@ -2,22 +2,9 @@
 #ifndef SENDER_H
 #define SENDER_H
 
-#include <stddef.h>
-#include <stdint.h>
-
+#include "bytes.h"
 #include "kolowrotan.h"
 #include "report.h"
-
-/* Bytes on their way in one direction, in order. */
-struct bytes {
-    uint8_t data[65536];
-    size_t length;
-};
-
-void bytes_append(struct bytes *bytes, const uint8_t *data, size_t length);
-
-/* Takes the first `count` bytes away. */
-void bytes_take(struct bytes *bytes, size_t count);
 
 /* A header block on its way, under its stream. */
 struct message {
@@ -45,8 +32,5 @@ void sender_report(struct sender *sender, const struct report *report, uint32_t 
 
 /* Acknowledgement bytes have come. Answers how many entries are gone by them. */
 unsigned sender_acknowledge(struct sender *sender, const uint8_t *data, size_t length);
-
-/* An answer that a correct host never gets: says so and ends the program. */
-void unexpected(const char *call, uint64_t result);
 
 #endif

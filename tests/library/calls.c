@@ -58,40 +58,52 @@ void decoder_start(const char *file, int line, struct lent *memory, uint64_t lim
     kept(file, line, memory, KOLOWROTAN_DECODER_LENGTH, answer);
 }
 
-void decoder_read(const char *file, int line, struct lent *memory, const char *bytes, int answer, uint32_t first)
+/* A block call: decoding and encoding have the same parameters. */
+typedef uint64_t block_call(uint8_t *memory, size_t memory_length, uint64_t stream, uint64_t part, const uint8_t *bytes,
+                            size_t bytes_length, uint8_t *output, size_t output_length);
+
+static void block(const char *file, int line, block_call *call, size_t length, struct lent *memory, uint64_t stream,
+                  uint64_t part, struct lent *bytes, size_t room, int answer, uint32_t first, const char *expected)
+{
+    struct lent output = lent_new(room, 0xEE);
+    uint64_t result = call(memory->bytes, memory->length, stream, part, bytes->bytes, bytes->length, output.bytes, output.length);
+    told(file, line, result, answer, first, 0);
+    kept(file, line, memory, length, answer);
+    given(file, line, bytes);
+    written(file, line, &output, answer, first, expected);
+}
+
+/* A read call: the decoder's and the encoder's have the same parameters. */
+typedef uint64_t read_call(uint8_t *memory, size_t memory_length, const uint8_t *bytes, size_t bytes_length);
+
+static void read(const char *file, int line, read_call *call, size_t length, struct lent *memory, const char *bytes,
+                 int answer, uint32_t first)
 {
     struct lent given_bytes = lent_hex(bytes);
-    uint64_t result = kolowrotan_decoder_read(memory->bytes, memory->length, given_bytes.bytes, given_bytes.length);
-    told(file, line, result, answer, first, 0);
-    kept(file, line, memory, KOLOWROTAN_DECODER_LENGTH, answer);
+    told(file, line, call(memory->bytes, memory->length, given_bytes.bytes, given_bytes.length), answer, first, 0);
+    kept(file, line, memory, length, answer);
     given(file, line, &given_bytes);
     lent_free(&given_bytes);
 }
 
-static void offer(const char *file, int line, struct lent *memory, uint64_t stream, uint64_t part, struct lent *bytes,
-                  size_t room, int answer, uint32_t first, const char *expected)
+void decoder_read(const char *file, int line, struct lent *memory, const char *bytes, int answer, uint32_t first)
 {
-    struct lent output = lent_new(room, 0xEE);
-    uint64_t result = kolowrotan_decoder_block(memory->bytes, memory->length, stream, part, bytes->bytes, bytes->length,
-                                               output.bytes, output.length);
-    told(file, line, result, answer, first, 0);
-    kept(file, line, memory, KOLOWROTAN_DECODER_LENGTH, answer);
-    given(file, line, bytes);
-    written(file, line, &output, answer, first, expected);
+    read(file, line, kolowrotan_decoder_read, KOLOWROTAN_DECODER_LENGTH, memory, bytes, answer, first);
 }
 
 void decoder_block(const char *file, int line, struct lent *memory, uint64_t stream, uint64_t part, const char *bytes,
                    size_t room, int answer, uint32_t first, const char *output)
 {
     struct lent given_bytes = lent_hex(bytes);
-    offer(file, line, memory, stream, part, &given_bytes, room, answer, first, output);
+    block(file, line, kolowrotan_decoder_block, KOLOWROTAN_DECODER_LENGTH, memory, stream, part, &given_bytes, room, answer, first, output);
     lent_free(&given_bytes);
 }
 
 void decoder_block_bytes(const char *file, int line, struct lent *memory, uint64_t stream, struct lent *bytes, size_t room,
                          int answer, uint32_t first)
 {
-    offer(file, line, memory, stream, KOLOWROTAN_NONTRAILER, bytes, room, answer, first, NULL);
+    block(file, line, kolowrotan_decoder_block, KOLOWROTAN_DECODER_LENGTH, memory, stream, KOLOWROTAN_NONTRAILER, bytes, room,
+          answer, first, NULL);
 }
 
 void decoder_ended(const char *file, int line, struct lent *memory, uint64_t stream, int answer)
@@ -155,38 +167,22 @@ void encoder_delete(const char *file, int line, struct lent *memory, uint64_t in
     written(file, line, &output, answer, first, expected);
 }
 
-static void write(const char *file, int line, struct lent *memory, uint64_t stream, uint64_t part, struct lent *list,
-                  size_t room, int answer, uint32_t first, const char *expected)
-{
-    struct lent output = lent_new(room, 0xEE);
-    uint64_t result = kolowrotan_encoder_block(memory->bytes, memory->length, stream, part, list->bytes, list->length,
-                                               output.bytes, output.length);
-    told(file, line, result, answer, first, 0);
-    kept(file, line, memory, KOLOWROTAN_ENCODER_LENGTH, answer);
-    given(file, line, list);
-    written(file, line, &output, answer, first, expected);
-}
-
 void encoder_block(const char *file, int line, struct lent *memory, uint64_t stream, uint64_t part, const char *list,
                    size_t room, int answer, uint32_t first, const char *output)
 {
     struct lent given_list = lent_hex(list);
-    write(file, line, memory, stream, part, &given_list, room, answer, first, output);
+    block(file, line, kolowrotan_encoder_block, KOLOWROTAN_ENCODER_LENGTH, memory, stream, part, &given_list, room, answer, first, output);
     lent_free(&given_list);
 }
 
 void encoder_block_bytes(const char *file, int line, struct lent *memory, uint64_t stream, struct lent *list, size_t room,
                          int answer, uint32_t first)
 {
-    write(file, line, memory, stream, KOLOWROTAN_NONTRAILER, list, room, answer, first, NULL);
+    block(file, line, kolowrotan_encoder_block, KOLOWROTAN_ENCODER_LENGTH, memory, stream, KOLOWROTAN_NONTRAILER, list, room,
+          answer, first, NULL);
 }
 
 void encoder_acknowledge(const char *file, int line, struct lent *memory, const char *bytes, int answer, uint32_t first)
 {
-    struct lent given_bytes = lent_hex(bytes);
-    uint64_t result = kolowrotan_encoder_acknowledge(memory->bytes, memory->length, given_bytes.bytes, given_bytes.length);
-    told(file, line, result, answer, first, 0);
-    kept(file, line, memory, KOLOWROTAN_ENCODER_LENGTH, answer);
-    given(file, line, &given_bytes);
-    lent_free(&given_bytes);
+    read(file, line, kolowrotan_encoder_acknowledge, KOLOWROTAN_ENCODER_LENGTH, memory, bytes, answer, first);
 }
