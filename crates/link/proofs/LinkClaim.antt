@@ -24,7 +24,7 @@ unfolding startAnswer
 start-done limit h = rw (le-leb limit 4096 h) refl
 
 module _ (m n : ℕ) (S : Ends) (T : Started m n S) where
-  fresh-ends : Joined S (events.fresh m n)
+  pub fresh-ends : Joined S (events.fresh m n)
   unfolding events.fresh
   fresh-ends = record {
     encoder-stands = subst (λ (l : List ℕ). StandsEncoder l (startEncoder m)) (T .encoder-is) (start-encoder (T .encoder-memory) m (T .encoder-small) (T .encoder-done));

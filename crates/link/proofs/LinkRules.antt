@@ -18,7 +18,7 @@ use Rattle.model.specs.Events as events
 use Rattle.model.specs.Link.{at}
 use Rattle.model.specs.Link as model
 use Rattle.reply.specs.Result.{Result}
-use Rattle.link.specs.Claims.{Event, Written, writtenIn, Accepted, Rules}
+use Rattle.link.specs.Claims.{Event, Written, writtenIn, Accepted, Rules, Managed, Acknowledges}
 use Rattle.link.proofs.Steps.{Unreadable, Step, byteOf, modelOf, bytes, modelled, OfferStep, ByteTold, byte-told, OfferedStep, ModelTold, model-told}
 use Rattle.link.proofs.StepHistories.{alike, alike-model, alike-bytes}
 use Rattle.link.proofs.StepBorders.{Split, split-steps, events-around, next-read, heard-next, acknowledgements, acked-next, at-acknowledge}
@@ -84,7 +84,7 @@ module _ (ss : List Step) (R : Rules (bytes ss)) where
       let t = told-by-model (P .step) _ (P .is) in
       let w = heard-next ss (R .management) (P .before) (P .step) (P .after) (P .whole) (t .given) (t .result) (t .is) in
       subst (λ (l : List events.Event). at (model.heardIn l) (model.saidIn l) ≡ some i) (P .front)
-      (next-read readForDecoder _ _ (t .given) (t .result) i (t .tied) w .0)
+      (next-read readForDecoder Managed _ _ (t .given) (t .result) i (t .tied) w .0)
 
   acknowledged : (xs ys : List events.Event) (i n : ℕ) → modelled ss ≡ xs ++ (events.acknowledged i n ∷ ys)
       → at (model.acknowledgedIn xs) (model.freedIn xs) ≡ some i
@@ -93,7 +93,7 @@ module _ (ss : List Step) (R : Rules (bytes ss)) where
       let t = told-by-model (P .step) _ (P .is) in
       let w = acked-next ss (R .acknowledgements) (P .before) (P .step) (P .after) (P .whole) (t .given) (t .result) (t .is) in
       subst (λ (l : List events.Event). at (model.acknowledgedIn l) (model.freedIn l) ≡ some i) (P .front)
-      (at-acknowledge (model.freedIn (modelled (P .before))) _ i (next-read readForEncoder _ _ (t .given) (t .result) (acknowledge i) (t .tied) w .0))
+      (at-acknowledge (model.freedIn (modelled (P .before))) _ i (next-read readForEncoder Acknowledges _ _ (t .given) (t .result) (acknowledge i) (t .tied) w .0))
 
   module _ (xs ys : List events.Event) (n s part : ℕ) (rs : List Representation) (room : ℕ) (a : Answer) (o : Output)
       (q : modelled ss ≡ xs ++ (events.offered n s part rs room a o ∷ ys)) where

@@ -22,7 +22,7 @@ use Rattle.model.specs.Link as model
 use Rattle.model.proofs.Tables.{nope}
 use Rattle.reply.specs.Result.{Result}
 use Rattle.link.specs.Calls as calls
-use Rattle.link.specs.Claims.{Event, Written, writtenIn, heldAfter, Rules, Names, Cut, ServedBlock, Served}
+use Rattle.link.specs.Claims.{Event, Written, writtenIn, heldAfter, Rules, Names, Managed, Acknowledges, Cut, ServedBlock, Served}
 use Rattle.link.proofs.Wires.{Whole, Ends, border-order}
 use Rattle.link.proofs.Steps.{Misread, Unreadable, Step, byteOf, modelOf, bytes, modelled, HeardAs, AcknowledgedAs, OfferStep}
 use Rattle.link.proofs.StepHistories.{held-same, SameBlock, alike, alike-model}
@@ -34,10 +34,10 @@ unfolding outputBytes
 fields-bytes o v e = ap outputBytes e
 
 -- bytes that are refused, of the whole next instruction or of a cut one
-cut-answer : (reads : List ℕ → InstructionRead) (is : List Instruction) (h : ℕ) (s : List ℕ) (r : Result) → Misread reads s r
-    → Whole reads is h s ⊎ Ends reads s → (r .answer .number ≡ 2) × Cut s
-cut-answer reads is h s r f (inl w) = let a = f .1 in let b = w .found in nope (cc)
-cut-answer reads is h s r f (inr e) = let a = f .1 in let b = e .0 in let z : f .0 ≡ 2 = cc in (f .2 ∙ z, e .1)
+cut-answer : (reads : List ℕ → InstructionRead) (Says : Instruction → Type 0) (is : List Instruction) (h : ℕ) (s : List ℕ) (r : Result) → Misread reads s r
+    → Whole reads is h s ⊎ Ends reads Says s → (r .answer .number ≡ 2) × Cut Says s
+cut-answer reads Says is h s r f (inl w) = let a = f .1 in let b = w .found in nope (cc)
+cut-answer reads Says is h s r f (inr e) = let a = f .1 in let b = e .0 in let z : f .0 ≡ 2 = cc in (f .2 ∙ z, e .1)
 
 module _ (ss : List Step) (R : Rules (bytes ss)) (M : model.Served (modelled ss)) where
   -- ---- an offered block
@@ -100,32 +100,32 @@ module _ (ss : List Step) (R : Rules (bytes ss)) (M : model.Served (modelled ss)
 
   -- ---- reads
   management : (xs ys : List Event) (s : List ℕ) (r : Result) → bytes ss ≡ xs ++ (Event.heard s r ∷ ys)
-      → (r .answer .number ≡ 0) ⊎ ((r .answer .number ≡ 2) × Cut s)
+      → (r .answer .number ≡ 0) ⊎ ((r .answer .number ≡ 2) × Cut Managed s)
   management xs ys s r q = go (told-by-bytes (P .step) _ (P .is))
     where
       P : Split byteOf ss xs (Event.heard s r) ys
       P = split-steps byteOf ss xs (Event.heard s r) ys q
 
-      go : HeardAs s r (modelOf (P .step)) ⊎ Misread readForDecoder s r → (r .answer .number ≡ 0) ⊎ ((r .answer .number ≡ 2) × Cut s)
+      go : HeardAs s r (modelOf (P .step)) ⊎ Misread readForDecoder s r → (r .answer .number ≡ 0) ⊎ ((r .answer .number ≡ 2) × Cut Managed s)
       go (inl t) =
           inl (M .management (modelled (P .before)) (modelled (P .after)) (t .0) (r .answer .number)
           (events-around modelOf ss (P .before) (P .step) (P .after) (P .whole) _ (t .2)))
       go (inr f) =
-          inr (cut-answer readForDecoder _ _ s r f (heard-next ss (R .management) (P .before) (P .step) (P .after) (P .whole) s r (P .is)))
+          inr (cut-answer readForDecoder Managed _ _ s r f (heard-next ss (R .management) (P .before) (P .step) (P .after) (P .whole) s r (P .is)))
 
   acknowledgements : (xs ys : List Event) (s : List ℕ) (r : Result) → bytes ss ≡ xs ++ (Event.wrote (calls.EncoderCall.acknowledge s) r ∷ ys)
-      → (r .answer .number ≡ 0) ⊎ ((r .answer .number ≡ 2) × Cut s)
+      → (r .answer .number ≡ 0) ⊎ ((r .answer .number ≡ 2) × Cut Acknowledges s)
   acknowledgements xs ys s r q = go (told-by-bytes (P .step) _ (P .is))
     where
       P : Split byteOf ss xs (Event.wrote (calls.EncoderCall.acknowledge s) r) ys
       P = split-steps byteOf ss xs (Event.wrote (calls.EncoderCall.acknowledge s) r) ys q
 
-      go : AcknowledgedAs s r (modelOf (P .step)) ⊎ Misread readForEncoder s r → (r .answer .number ≡ 0) ⊎ ((r .answer .number ≡ 2) × Cut s)
+      go : AcknowledgedAs s r (modelOf (P .step)) ⊎ Misread readForEncoder s r → (r .answer .number ≡ 0) ⊎ ((r .answer .number ≡ 2) × Cut Acknowledges s)
       go (inl t) =
           inl (M .acknowledgements (modelled (P .before)) (modelled (P .after)) (t .0) (r .answer .number)
           (events-around modelOf ss (P .before) (P .step) (P .after) (P .whole) _ (t .2)))
       go (inr f) =
-          inr (cut-answer readForEncoder _ _ s r f (acked-next ss (R .acknowledgements) (P .before) (P .step) (P .after) (P .whole) s r (P .is)))
+          inr (cut-answer readForEncoder Acknowledges _ _ s r f (acked-next ss (R .acknowledgements) (P .before) (P .step) (P .after) (P .whole) s r (P .is)))
 
   pub served-bytes : Served (bytes ss)
   served-bytes = record { blocks = blocks; management = management; acknowledgements = acknowledgements }

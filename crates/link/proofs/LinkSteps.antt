@@ -38,11 +38,10 @@ use Rattle.parts.specs.Turn.{partTurn}
 use Rattle.reply.specs.Result.{Result}
 use Rattle.link.specs.Calls.{decoderResult, encoderResult}
 use Rattle.link.specs.Calls as calls
-use Rattle.link.specs.Claims.{LinkCall, Ends, Event, doneBytes, turn, events, LinkBytes, AllLinkBytes, offer}
+use Rattle.link.specs.Claims.{LinkCall, Ends, Event, doneBytes, turn, events, LinkBytes, AllLinkBytes, offer, Acknowledges}
 use Rattle.link.proofs.Lifted.{readBlockCall, decoderCallOf, StandsDecoder, StandsEncoder}
 use Rattle.link.proofs.DecoderLifting.{kept-self-decoder, lift-decoder}
 use Rattle.link.proofs.EncoderLifting.{fine-encoder, kept-self-encoder, lift-encoder}
-use Rattle.link.proofs.Wires.{Acknowledges}
 use Rattle.link.proofs.Steps.{Step, heard, offered, freed, told, reset, bytes, modelled}
 use Rattle.link.proofs.QuietSteps.{TiedStep, idle-step, Left, done-none, done-told, done-some, refuses-some}
 use Rattle.link.proofs.QuietSteps.{quiet-read, quiet-offer, quiet-ended, quiet-collect, quiet-enquiry}

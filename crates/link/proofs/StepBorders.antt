@@ -22,8 +22,8 @@ use Rattle.model.proofs.Tables.{nope}
 use Rattle.model.proofs.Linking.{said-append, freed-append, heard-append, acknowledged-append}
 use Rattle.reply.specs.Result.{Result}
 use Rattle.link.specs.Calls as calls
-use Rattle.link.specs.Claims.{Event, managementIn, readOf, readIn, acknowledgementsIn, acknowledgedOf, acknowledgedIn}
-use Rattle.link.proofs.Wires.{Border, border-start, border-more, border-next, Whole, Ends, beginning, Managed, Acknowledges}
+use Rattle.link.specs.Claims.{Event, managementIn, readOf, readIn, acknowledgementsIn, acknowledgedOf, acknowledgedIn, Managed, Acknowledges}
+use Rattle.link.proofs.Wires.{Border, border-start, border-more, border-next, Whole, Ends, beginning}
 use Rattle.link.proofs.Wires.{for-decoder, for-encoder}
 use Rattle.link.proofs.Steps.{ReadAs, Step, said, wrote, acknowledged, heard, offered, freed, told, quiet, byteOf, modelOf, bytes, modelled}
 use Rattle.link.proofs.Steps as steps
@@ -89,23 +89,23 @@ border-step : (is js ks : List Instruction) (h k n b h′ k′ : ℕ) → ks ≡
 border-step is js ks h k n b h′ k′ l x y B m = rw (l, x, y) (border-more is js (h + n) (k + b) (border-moves is h k n b B m))
 
 -- a read of the whole next instruction reads that one
-pub next-read : (reads : List ℕ → InstructionRead) (is : List Instruction) (h : ℕ) (s : List ℕ) (r : Result) (i : Instruction)
-    (f : ReadAs reads s r i) → Whole reads is h s ⊎ Ends reads s → (at h is ≡ some i) × (f .taken ≡ length (instructionWire i))
-next-read reads is h s r i f (inl w) =
+pub next-read : (reads : List ℕ → InstructionRead) (Says : Instruction → Type 0) (is : List Instruction) (h : ℕ) (s : List ℕ) (r : Result) (i : Instruction)
+    (f : ReadAs reads s r i) → Whole reads is h s ⊎ Ends reads Says s → (at h is ≡ some i) × (f .taken ≡ length (instructionWire i))
+next-read reads Says is h s r i f (inl w) =
     let a = f .found in
     let b = w .found in
     let p : w .place ≡ f .place = cc in
     let t : f .taken ≡ length (instructionWire (w .next)) = cc in
     let n : w .next ≡ i = sym (w .same) ∙ ap (instructionOf s) p ∙ f .same in
     (w .there ∙ ap some n, t ∙ ap (λ (j : Instruction). length (instructionWire j)) n)
-next-read reads is h s r i f (inr e) = let a = f .found in let b = e .0 in nope (cc)
+next-read reads Says is h s r i f (inr e) = let a = f .found in let b = e .0 in nope (cc)
 
-read-moves : (reads : List ℕ → InstructionRead) (is : List Instruction) (h : ℕ) (s : List ℕ) (r : Result) (i : Instruction)
-    → ReadAs reads s r i → Whole reads is h s ⊎ Ends reads s
+read-moves : (reads : List ℕ → InstructionRead) (Says : Instruction → Type 0) (is : List Instruction) (h : ℕ) (s : List ℕ) (r : Result) (i : Instruction)
+    → ReadAs reads s r i → Whole reads is h s ⊎ Ends reads Says s
     → Moves is h (pick (eqb (r .answer .number) 0) 1 0 + 0) (pick (eqb (r .answer .number) 0) (r .answer .first) 0)
-read-moves reads is h s r i f w =
+read-moves reads Says is h s r i f w =
     let z = eqb (r .answer .number) 0 in
-    let n = next-read reads is h s r i f w in
+    let n = next-read reads Says is h s r i f w in
     either z
     (λ e. inr (
       i,
@@ -122,13 +122,13 @@ read-snoc [] e = omega arith
 read-snoc (x ∷ es) e = omega (arith, read-snoc es e)
 
 module _ (is : List Instruction) (h : ℕ) where
-  heard-moves : (st : Step) → ((s : List ℕ) (r : Result) → byteOf st ≡ Event.heard s r → Whole readForDecoder is h s ⊎ Ends readForDecoder s)
+  heard-moves : (st : Step) → ((s : List ℕ) (r : Result) → byteOf st ≡ Event.heard s r → Whole readForDecoder is h s ⊎ Ends readForDecoder Managed s)
       → Moves is h (model.heardIn (modelOf st ∷ [])) (readOf (byteOf st))
   unfolding model.heardIn
   heard-moves (said c r i f) w = inl (refl, refl)
   heard-moves (wrote stream part s out r fs rs f) w = inl (refl, refl)
   heard-moves (acknowledged s r i f) w = inl (refl, refl)
-  heard-moves (heard s r i f) w = read-moves readForDecoder is h s r i f (w s r refl)
+  heard-moves (heard s r i f) w = read-moves readForDecoder Managed is h s r i f (w s r refl)
   heard-moves (offered n stream part s out r rs o f) w = inl (refl, refl)
   heard-moves (freed out r i f e) w = inl (refl, refl)
   heard-moves (told stream r z) w = inl (refl, refl)
@@ -141,7 +141,7 @@ module _ (ss : List Step) (rule : (xs ys : List Event) (s : List ℕ) (r : Resul
   Heard xs = Border (model.saidIn (modelled xs)) (model.heardIn (modelled xs)) (readIn (bytes xs))
 
   heard-whole : (xs : List Step) (st : Step) (ys : List Step) → ss ≡ xs ++ (st ∷ ys) → Heard xs → (s : List ℕ) (r : Result) → byteOf st ≡ Event.heard s r
-      → Whole readForDecoder (model.saidIn (modelled xs)) (model.heardIn (modelled xs)) s ⊎ Ends readForDecoder s
+      → Whole readForDecoder (model.saidIn (modelled xs)) (model.heardIn (modelled xs)) s ⊎ Ends readForDecoder Managed s
   heard-whole xs st ys q B s r e =
       let g = rule (bytes xs) (bytes ys) s r (events-around byteOf ss xs st ys q _ e) in
       beginning readForDecoder Managed for-decoder (model.saidIn (modelled xs)) (model.heardIn (modelled xs)) (readIn (bytes xs)) (each-said xs) B s (g .0)
@@ -166,7 +166,7 @@ module _ (ss : List Step) (rule : (xs ys : List Event) (s : List ℕ) (r : Resul
 
   -- what a read gets
   pub heard-next : (xs : List Step) (st : Step) (ys : List Step) → ss ≡ xs ++ (st ∷ ys) → (s : List ℕ) (r : Result) → byteOf st ≡ Event.heard s r
-      → Whole readForDecoder (model.saidIn (modelled xs)) (model.heardIn (modelled xs)) s ⊎ Ends readForDecoder s
+      → Whole readForDecoder (model.saidIn (modelled xs)) (model.heardIn (modelled xs)) s ⊎ Ends readForDecoder Managed s
   heard-next xs st ys q = heard-whole xs st ys q (heard-border xs (st ∷ ys) q)
 
 -- ---- acknowledgements
@@ -181,12 +181,12 @@ acknowledgements xs = map acknowledge (model.freedIn (modelled xs))
 
 module _ (is : List Instruction) (h : ℕ) where
   acknowledged-moves : (st : Step)
-      → ((s : List ℕ) (r : Result) → byteOf st ≡ Event.wrote (calls.EncoderCall.acknowledge s) r → Whole readForEncoder is h s ⊎ Ends readForEncoder s)
+      → ((s : List ℕ) (r : Result) → byteOf st ≡ Event.wrote (calls.EncoderCall.acknowledge s) r → Whole readForEncoder is h s ⊎ Ends readForEncoder Acknowledges s)
       → Moves is h (model.acknowledgedIn (modelOf st ∷ [])) (acknowledgedOf (byteOf st))
   unfolding model.acknowledgedIn
   acknowledged-moves (said c r i f) w = inl (refl, said-acknowledged c r (f .speaks))
   acknowledged-moves (wrote stream part s out r fs rs f) w = inl (refl, refl)
-  acknowledged-moves (acknowledged s r i f) w = read-moves readForEncoder is h s r (acknowledge i) f (w s r refl)
+  acknowledged-moves (acknowledged s r i f) w = read-moves readForEncoder Acknowledges is h s r (acknowledge i) f (w s r refl)
   acknowledged-moves (heard s r i f) w = inl (refl, refl)
   acknowledged-moves (offered n stream part s out r rs o f) w = inl (refl, refl)
   acknowledged-moves (freed out r i f e) w = inl (refl, refl)
@@ -201,7 +201,7 @@ module _ (ss : List Step) (rule : (xs ys : List Event) (s : List ℕ) (r : Resul
 
   acked-whole : (xs : List Step) (st : Step) (ys : List Step) → ss ≡ xs ++ (st ∷ ys) → Acked xs → (s : List ℕ) (r : Result)
       → byteOf st ≡ Event.wrote (calls.EncoderCall.acknowledge s) r
-      → Whole readForEncoder (acknowledgements xs) (model.acknowledgedIn (modelled xs)) s ⊎ Ends readForEncoder s
+      → Whole readForEncoder (acknowledgements xs) (model.acknowledgedIn (modelled xs)) s ⊎ Ends readForEncoder Acknowledges s
   acked-whole xs st ys q B s r e =
       let g = rule (bytes xs) (bytes ys) s r (events-around byteOf ss xs st ys q _ e) in
       beginning readForEncoder Acknowledges for-encoder (acknowledgements xs) (model.acknowledgedIn (modelled xs)) (acknowledgedIn (bytes xs))
@@ -225,7 +225,7 @@ module _ (ss : List Step) (rule : (xs ys : List Event) (s : List ℕ) (r : Resul
   -- what a read of an acknowledgement gets
   pub acked-next : (xs : List Step) (st : Step) (ys : List Step) → ss ≡ xs ++ (st ∷ ys) → (s : List ℕ) (r : Result)
       → byteOf st ≡ Event.wrote (calls.EncoderCall.acknowledge s) r
-      → Whole readForEncoder (acknowledgements xs) (model.acknowledgedIn (modelled xs)) s ⊎ Ends readForEncoder s
+      → Whole readForEncoder (acknowledgements xs) (model.acknowledgedIn (modelled xs)) s ⊎ Ends readForEncoder Acknowledges s
   acked-next xs st ys q = acked-whole xs st ys q (along Acked ss acked-keeps acked-start xs (st ∷ ys) q)
 
 -- the index that the next acknowledgement names

@@ -44,9 +44,11 @@ use Rattle.link.specs.Claims.{
   acknowledgesAt,
   heldBy,
   heldFrom,
+  Managed,
+  Acknowledges,
 }
 use Rattle.link.specs.Claims as claims
-use Rattle.link.proofs.Wires.{wires, Border, border-start, border-more, border-next, Managed, Acknowledges}
+use Rattle.link.proofs.Wires.{wires, Border, border-start, border-more, border-next}
 use Rattle.link.proofs.Steps.{Speaks, ReadAs, Step, said, wrote, acknowledged, heard, offered, freed, told, quiet, bytes, modelled}
 use Rattle.link.proofs.Steps as steps
 

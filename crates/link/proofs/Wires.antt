@@ -8,7 +8,8 @@ use mathlib.Core.Option.{some}
 use mathlib.Core.List.{List, [], _∷_, _++_, append-nil, append-assoc, nil≢cons, head-eq-of-cons-eq, tail-eq-of-cons-eq}
 use lib.ListN.{length, take, drop, length-append, take-append-drop}
 use lib.Seq.{take-append-le, drop-at}
-use Rattle.instructions.specs.Instruction.{Instruction, acknowledge, Fine, FineIndex, Manages, instructionWire}
+use Rattle.instructions.specs.Instruction.{Instruction, insert, acknowledge, instructionWire}
+use Rattle.wire.specs.Name.{literal}
 use Rattle.instructions.specs.Reading.{readForDecoder, readForEncoder, instructionOf}
 use Rattle.instructions.specs.declared.read.InstructionPlace.{InstructionPlace}
 use Rattle.instructions.specs.declared.read.InstructionRead.{InstructionRead}
@@ -21,7 +22,7 @@ use Rattle.model.specs.Link.{at}
 use Rattle.model.proofs.Tables.{nope}
 use Rattle.model.proofs.Linking.{at-below}
 use Rattle.state_laws.proofs.Each.{Each}
-use Rattle.link.specs.Claims.{Cut}
+use Rattle.link.specs.Claims.{Managed, Acknowledges, Cut}
 
 -- ---- instructions one after another
 unfoldable pub wires : List Instruction → List ℕ
@@ -119,6 +120,7 @@ pub record Reader (reads : List ℕ → InstructionRead) (Says : Instruction →
       × (instructionOf (instructionWire i ++ rest) p ≡ i)
   pub cut : (i : Instruction) (xs : List ℕ) (y : ℕ) (ys : List ℕ) → Says i → instructionWire i ≡ xs ++ (y ∷ ys) → reads xs ≡ Refused 2
   pub empty : reads [] ≡ Refused 2
+  pub some-said : (i : Instruction) × Says i
 
 -- the whole next instruction is at the front, or the bytes end inside one
 pub record Whole (reads : List ℕ → InstructionRead) (is : List Instruction) (h : ℕ) (s : List ℕ) : Type 0 where
@@ -128,8 +130,8 @@ pub record Whole (reads : List ℕ → InstructionRead) (is : List Instruction) 
   pub found : reads s ≡ Found place (length (instructionWire next))
   pub same : instructionOf s place ≡ next
 
-abbrev pub Ends : (List ℕ → InstructionRead) → List ℕ → Type 0
-Ends reads s = (reads s ≡ Refused 2) × Cut s
+abbrev pub Ends : (List ℕ → InstructionRead) → (Instruction → Type 0) → List ℕ → Type 0
+Ends reads Says s = (reads s ≡ Refused 2) × Cut Says s
 
 at-rest : (is : List Instruction) (h : ℕ) (i : Instruction) (js : List Instruction) → drop h is ≡ i ∷ js → at h is ≡ some i
 unfolding at
@@ -143,29 +145,27 @@ some-first : (xs : List ℕ) → 1 ≤ length xs → (x : ℕ) × (l : List ℕ)
 some-first [] h = absurd (omega arith)
 some-first (x ∷ l) h = (x, l, refl)
 
-empty-cut : Cut []
-empty-cut =
-    let f = some-first (instructionWire (acknowledge 62)) (instruction-some (acknowledge 62)) in
-    (acknowledge 62, f .0, f .1, f .2)
+empty-cut : (Says : Instruction → Type 0) (i : Instruction) → Says i → Cut Says []
+empty-cut Says i said = let f = some-first (instructionWire i) (instruction-some i) in (i, said, f .0, f .1, f .2)
 
 pub beginning : (reads : List ℕ → InstructionRead) (Says : Instruction → Type 0) → Reader reads Says → (is : List Instruction) (h k : ℕ)
-    → Each Says is → Border is h k → (s rest : List ℕ) → drop k (wires is) ≡ s ++ rest → Whole reads is h s ⊎ Ends reads s
+    → Each Says is → Border is h k → (s rest : List ℕ) → drop k (wires is) ≡ s ++ rest → Whole reads is h s ⊎ Ends reads Says s
 unfolding wires
 beginning reads Says R is h k a b s rest e = go (drop h is) refl
   where
-    nothing-left : (s : List ℕ) → _≡_ {A = List ℕ} [] (s ++ rest) → Ends reads s
-    nothing-left [] z = (R .empty, empty-cut)
+    nothing-left : (s : List ℕ) → _≡_ {A = List ℕ} [] (s ++ rest) → Ends reads Says s
+    nothing-left [] z = (R .empty, empty-cut Says (R .some-said .0) (R .some-said .1))
     nothing-left (x ∷ s) z = absurd (nil≢cons z)
 
     -- where the next instruction is i
     next : (i : Instruction) (js : List Instruction) → drop h is ≡ i ∷ js → Says i
-        → ((t : List ℕ) × (s ≡ instructionWire i ++ t)) ⊎ ((x : ℕ) × (t : List ℕ) × (instructionWire i ≡ s ++ (x ∷ t))) → Whole reads is h s ⊎ Ends reads s
+        → ((t : List ℕ) × (s ≡ instructionWire i ++ t)) ⊎ ((x : ℕ) × (t : List ℕ) × (instructionWire i ≡ s ++ (x ∷ t))) → Whole reads is h s ⊎ Ends reads Says s
     next i js d says (inl w) =
         let f = R .front i (w .0) says in
         inl (subst (Whole reads is h) (sym (w .1)) (record { next = i; place = f .0; there = at-rest is h i js d; found = f .1; same = f .2 }))
-    next i js d says (inr w) = inr (R .cut i s (w .0) (w .1) says (w .2), (i, w .0, w .1, w .2))
+    next i js d says (inr w) = inr (R .cut i s (w .0) (w .1) says (w .2), (i, says, w .0, w .1, w .2))
 
-    go : (l : List Instruction) → drop h is ≡ l → Whole reads is h s ⊎ Ends reads s
+    go : (l : List Instruction) → drop h is ≡ l → Whole reads is h s ⊎ Ends reads Says s
     go [] d = inr (nothing-left s (sym (ap wires d) ∙ sym (border-rest is h k b) ∙ e))
     go (i ∷ js) d =
         next i js d (subst (Each Says) d (each-drop Says h is a) .0)
@@ -173,18 +173,12 @@ beginning reads Says R is h k a b s rest e = go (drop h is) refl
 
 -- ---- the two readers
 
--- what the encoder says to the decoder, and the decoder to the encoder
-abbrev pub Managed : Instruction → Type 0
-Managed i = Manages i × Fine i
-
-abbrev pub Acknowledges : Instruction → Type 0
-Acknowledges i = (k : ℕ) × (i ≡ acknowledge k) × FineIndex k
-
 pub for-decoder : Reader readForDecoder Managed
 for-decoder = record {
   front = λ i rest f. decoder-front i rest (f .0) (f .1);
   cut = λ i xs y ys f e. decoder-cut xs (y ∷ ys) (omega arith) i (f .0) (f .1) e;
   empty = decoder-empty [] (omega arith);
+  some-said = (insert 62 (literal []) [], (tt, ((omega arith, omega arith), omega arith, omega arith)));
 }
 
 pub for-encoder : Reader readForEncoder Acknowledges
@@ -192,6 +186,7 @@ for-encoder = record {
   front = λ i rest f. front i rest f;
   cut = λ i xs y ys f e. encoder-cut xs (y ∷ ys) (omega arith) (f .0) (f .2) (ap instructionWire (sym (f .1)) ∙ e);
   empty = encoder-empty [] (omega arith);
+  some-said = (acknowledge 62, (62, refl, (omega arith, omega arith)));
 }
   where
     front : (i : Instruction) (rest : List ℕ) → Acknowledges i

@@ -10,7 +10,7 @@ use lib.Dec.{eqb}
 use Rattle.memory.specs.Choice.{pick}
 use Rattle.memory.specs.Bytes.{Small, overlay}
 use Rattle.integers.specs.Answers.{done, no-room}
-use Rattle.instructions.specs.Instruction.{Instruction, insert, delete, acknowledge, instructionWire}
+use Rattle.instructions.specs.Instruction.{Instruction, insert, delete, acknowledge, FineIndex, Fine, Manages, instructionWire}
 use Rattle.instructions.specs.Reading.{readForDecoder, readForEncoder, onInstruction, instructionOf}
 use Rattle.blocks.specs.Representation.{Representation}
 use Rattle.blocks.specs.Reading.{BlockRead, block, readBlock}
@@ -423,9 +423,16 @@ pub record Rules (es : List Event) : Type 0 where
 abbrev pub Names : List ℕ → ℕ → Type 0
 Names b i = (rs : List Representation) × (readBlock b ≡ block rs) × Refers rs i
 
--- bytes that end inside an instruction, the empty ones included
-abbrev pub Cut : List ℕ → Type 0
-Cut s = (i : Instruction) × (x : ℕ) × (rest : List ℕ) × (instructionWire i ≡ s ++ (x ∷ rest))
+-- what the encoder can write to the decoder, and the decoder to the encoder
+abbrev pub Managed : Instruction → Type 0
+Managed i = Manages i × Fine i
+
+abbrev pub Acknowledges : Instruction → Type 0
+Acknowledges i = (k : ℕ) × (i ≡ acknowledge k) × FineIndex k
+
+-- bytes that end inside an instruction that the other end can write, the empty ones included
+abbrev pub Cut : (Instruction → Type 0) → List ℕ → Type 0
+Cut Says s = (i : Instruction) × Says i × (x : ℕ) × (rest : List ℕ) × (instructionWire i ≡ s ++ (x ∷ rest))
 
 -- ---- what follows, for one offered block: the events before it, the block written, and what the call left
 pub record ServedBlock (xs : List Event) (w : Written) (r : Result) : Type 0 where
@@ -444,9 +451,9 @@ pub record Served (es : List Event) : Type 0 where
       → (w : Written) → at n (writtenIn xs) ≡ some w → ServedBlock xs w r
   -- no management read and no acknowledgement is refused, but one whose bytes end inside an instruction: that is answered 2
   pub management : (xs ys : List Event) (s : List ℕ) (r : Result) → es ≡ xs ++ (heard s r ∷ ys)
-      → (r .answer .number ≡ 0) ⊎ ((r .answer .number ≡ 2) × Cut s)
+      → (r .answer .number ≡ 0) ⊎ ((r .answer .number ≡ 2) × Cut Managed s)
   pub acknowledgements : (xs ys : List Event) (s : List ℕ) (r : Result) → es ≡ xs ++ (wrote (calls.EncoderCall.acknowledge s) r ∷ ys)
-      → (r .answer .number ≡ 0) ⊎ ((r .answer .number ≡ 2) × Cut s)
+      → (r .answer .number ≡ 0) ⊎ ((r .answer .number ≡ 2) × Cut Acknowledges s)
 
 -- what is given and lent are bytes
 abbrev pub LinkBytes : LinkCall → Type 0

@@ -32,29 +32,29 @@ or-right true b e = refl
 or-right false b e = e
 
 module _ {X : Type 0} where
-  passes-some : (test : X → Bool) (o : Option X) → passes test o ≡ true → (x : X) × (o ≡ some x) × (test x ≡ true)
+  pub passes-some : (test : X → Bool) (o : Option X) → passes test o ≡ true → (x : X) × (o ≡ some x) × (test x ≡ true)
   passes-some test none e = not-both false e refl
   passes-some test (some x) e = (x, refl, e)
 
-  any-member : (test : X → Bool) (l : List X) → any test l ≡ true → (x : X) × List·Memᴰ x l × (test x ≡ true)
+  pub any-member : (test : X → Bool) (l : List X) → any test l ≡ true → (x : X) × List·Memᴰ x l × (test x ≡ true)
   any-member test [] e = not-both false e refl
   any-member test (x ∷ l) e = ⊎-elim (λ t. (x, List·Memᴰ·head refl, t))
       (λ t. let r = any-member test l t in (r .0, List·Memᴰ·tail (r .1), r .2)) (or-either (test x) (any test l) e)
 
-  member-any : (test : X → Bool) (l : List X) (x : X) → List·Memᴰ x l → test x ≡ true → any test l ≡ true
+  pub member-any : (test : X → Bool) (l : List X) (x : X) → List·Memᴰ x l → test x ≡ true → any test l ≡ true
   member-any test [] x m t = absurd (List·Memᴰ·not-nil m)
   member-any test (y ∷ l) x m t =
       ⊎-elim (λ p. or-left (test y) (any test l) (sym (ap test p) ∙ t))
       (λ k. or-right (test y) (any test l) (member-any test l x k t)) (List·Memᴰ·cases-cons m)
 
-  anyAt-place : (test : ℕ → X → Bool) (l : List X) → anyAt test l ≡ true → (m : ℕ) × (x : X) × (at m l ≡ some x) × (test m x ≡ true)
+  pub anyAt-place : (test : ℕ → X → Bool) (l : List X) → anyAt test l ≡ true → (m : ℕ) × (x : X) × (at m l ≡ some x) × (test m x ≡ true)
   unfolding at
   anyAt-place test [] e = not-both false e refl
   anyAt-place test (x ∷ l) e = ⊎-elim (λ t. (0, x, refl, t))
       (λ t. let r = anyAt-place (λ n. test (suc n)) l t in (suc (r .0), r .1, r .2, r .3))
       (or-either (test 0 x) (anyAt (λ n. test (suc n)) l) e)
 
-  allAt-place : (test : ℕ → X → Bool) (l : List X) → allAt test l ≡ true → (n : ℕ) (x : X) → at n l ≡ some x → test n x ≡ true
+  pub allAt-place : (test : ℕ → X → Bool) (l : List X) → allAt test l ≡ true → (n : ℕ) (x : X) → at n l ≡ some x → test n x ≡ true
   unfolding at
   allAt-place test [] e n x p = let z : _≡_ {A = ℕ} 0 1 = cc in absurd (omega arith)
   allAt-place test (y ∷ l) e zero x p =

@@ -1,0 +1,76 @@
+-- The claim of the two examples. What is shown of the calls is computed on the model's states, and the rules are tested on what is shown.
+use mathlib.Core.Path.{_≡_, refl, sym, ap, _∙_}
+use Prim.Native.Nat.{ℕ, zero, suc}
+use native.Mathlib.Omega.{arith}
+use mathlib.Core.List.{List, map}
+use lib.ListN.{length, replicate, length-replicate}
+use Rattle.memory.specs.Bytes.{Small}
+use Rattle.memory.proofs.Overlay.{small-cons}
+use Rattle.model.specs.Events as model
+use Rattle.state.specs.Layout.{decoderLength, encoderLength}
+use Rattle.decoder.specs.Calls as decoder
+use Rattle.encoder.specs.Calls as encoder
+use Rattle.link.specs.Claims.{Ends, events, Rules, AllLinkBytes, Started}
+use Rattle.link.proofs.LinkClaim.{fresh-ends, link-claim}
+use Rattle.link_examples.specs.Examples.{Shown, shown, callsOf, Example, life, accident, ExamplesClaim}
+use Rattle.link_examples.proofs.Seen.{shown-seen}
+use Rattle.link_examples.proofs.Computing.{computed}
+use Rattle.link_examples.proofs.RulesCheck.{keeps}
+use Rattle.link_examples.proofs.RulesSound.{keeps-sound}
+use Rattle.link_examples.proofs.Bare.{bare, same-keeps}
+use Rattle.link_examples.proofs.CallBytes.{all-bytes}
+use Rattle.link_examples.proofs.Tables.{Computed, life-computed, accident-computed}
+
+-- ---- a table that computes is an example
+module _ (t : List Shown) (C : Computed t) (S : Ends) (T : Started 4096 4096 S) where
+  given : AllLinkBytes (callsOf t)
+  given = all-bytes (callsOf t) (C .given)
+
+  happens : map shown (events S (callsOf t)) ≡ t
+  unfolding computed
+  happens = shown-seen S (model.fresh 4096 4096) (fresh-ends 4096 4096 S T) (callsOf t) given ∙ C .gives
+
+  rules : Rules (events S (callsOf t))
+  rules =
+      keeps-sound (events S (callsOf t))
+      (sym (same-keeps (events S (callsOf t))) ∙ ap (λ (l : List Shown). keeps (map bare l)) happens ∙ C .kept)
+
+  example : Example t S
+  example = record { happens = happens; rules = rules; served = link-claim .served 4096 4096 S T (omega arith) (callsOf t) given rules }
+
+-- ---- memory that can be started
+encoder-starts : (m : List ℕ) → length m ≡ encoderLength → encoder.startCall m 4096 .answer .number ≡ 0
+unfolding encoder.startCall
+encoder-starts m e = rw e refl
+
+decoder-starts : (m : List ℕ) → length m ≡ decoderLength → decoder.startCall m 4096 .answer .number ≡ 0
+unfolding decoder.startCall
+decoder-starts m e = rw e refl
+
+starts : (m n : List ℕ) → Small m → Small n → length m ≡ encoderLength → length n ≡ decoderLength → (S : Ends) × Started 4096 4096 S
+starts m n small-m small-n e d = (
+  record { encoder = encoder.startCall m 4096 .memory; decoder = decoder.startCall n 4096 .memory },
+  record {
+    encoder-memory = m;
+    decoder-memory = n;
+    encoder-small = small-m;
+    decoder-small = small-n;
+    encoder-done = encoder-starts m e;
+    decoder-done = decoder-starts n d;
+    encoder-is = refl;
+    decoder-is = refl;
+  },
+)
+
+-- zeros, of the least lengths
+small-zeros : (n : ℕ) → Small (replicate n 0)
+small-zeros zero = λ k. omega arith
+small-zeros (suc n) = small-cons 0 (replicate n 0) (omega arith) (small-zeros n)
+
+started : (S : Ends) × Started 4096 4096 S
+started =
+    starts (replicate encoderLength 0) (replicate decoderLength 0) (small-zeros encoderLength) (small-zeros decoderLength)
+    (length-replicate {A = ℕ} encoderLength 0) (length-replicate {A = ℕ} decoderLength 0)
+
+pub examples-claim : ExamplesClaim
+examples-claim = record { life-of-62 = example life life-computed; late-report = example accident accident-computed; some-start = started }

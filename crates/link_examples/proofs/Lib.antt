@@ -1,0 +1,12 @@
+-- what is shown of calls, computed on the model's states
+pub mod Seen
+pub mod Computing
+-- the rules for the link on bytes, as a test that computes and sees no memory
+pub mod RulesCheck
+pub mod RulesSound
+pub mod Bare
+-- what is given and lent is bytes
+pub mod CallBytes
+-- the two tables
+pub mod Tables
+pub mod ExamplesClaim

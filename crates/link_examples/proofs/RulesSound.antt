@@ -1,0 +1,168 @@
+-- A list of events on bytes that passes the test of RulesCheck keeps the rules for the link.
+-- By induction over the events before the one that a rule speaks of; then each test is read as the fact that it tests.
+use mathlib.Core.Path.{_≡_, refl, ap₂, subst, sym}
+use mathlib.Core.Logic.{_⊎_, inl, inr, ⊎-elim}
+use Prim.Native.Nat.{ℕ, _≤_}
+use mathlib.Core.Bool.{Bool, true, false, not, _&&_, _||_}
+use mathlib.Core.Option.{some}
+use mathlib.Core.List.{List, [], _∷_, _++_, append-nil, append-assoc, List·Memᴰ}
+use lib.ListN.{length}
+use lib.Dec.{eqb, leb}
+use borrow.Author.Tests.{eqb-true, eq-eqb, leb-true, not-true}
+use Rattle.memory.specs.Compare.{same}
+use Rattle.memory.proofs.Order.{not-both}
+use Rattle.memory.proofs.Sameness.{same-eq}
+use Rattle.model.specs.Link.{at}
+use Rattle.model.proofs.RulesCheck.{any, anyAt, allAt, passes}
+use Rattle.model.proofs.RulesSound.{passes-some, any-member, member-any, anyAt-place, allAt-place}
+use Rattle.model.proofs.Marks.{and-both, or-either}
+use Rattle.reply.specs.Result.{Result}
+use Rattle.link.specs.Calls as calls
+use Rattle.link.specs.Claims.{Event, wrote, heard, offered, told, collected, enquired, Written, writtenIn, Accepted, Rules}
+use Rattle.link_examples.proofs.RulesCheck.{begins, isDone, isReset, past, asWritten, acceptedPlain, otherOrAccepted, keepsEvent, keepsFrom, keeps}
+
+-- ---- what the tests say
+begins-sound : (s l : List ℕ) → begins s l ≡ true → (rest : List ℕ) × (l ≡ s ++ rest)
+begins-sound [] l e = (l, refl)
+begins-sound (x ∷ s) [] e = not-both false e refl
+begins-sound (x ∷ s) (y ∷ l) e =
+    let h = and-both (eqb y x) (begins s l) e in
+    let r = begins-sound s l (h .1) in
+    (r .0, ap₂ _∷_ (eqb-true y x (h .0)) (r .1))
+
+done-accepted : (n : ℕ) (e : Event) (xs : List Event) → List·Memᴰ e xs → isDone n e ≡ true → Accepted n xs
+done-accepted n (wrote c r) xs m e = not-both false e refl
+done-accepted n (heard s r) xs m e = not-both false e refl
+done-accepted n (offered k stream part s out r) xs m e =
+    let h = and-both (eqb k n) (eqb (r .answer .number) 0) e in
+    subst (λ j. Accepted j xs) (eqb-true k n (h .0))
+    (record { stream = stream; part = part; bytes = s; output = out; result = r; done = eqb-true (r .answer .number) 0 (h .1); when = m })
+done-accepted n (told stream r) xs m e = not-both false e refl
+done-accepted n (collected out r) xs m e = not-both false e refl
+done-accepted n (enquired index r) xs m e = not-both false e refl
+done-accepted n (Event.reset stream) xs m e = not-both false e refl
+
+accepted-sound : (n : ℕ) (xs : List Event) → any (isDone n) xs ≡ true → Accepted n xs
+accepted-sound n xs e = let r = any-member (isDone n) xs e in done-accepted n (r .0) xs (r .1) (r .2)
+
+accepted-complete : (n : ℕ) (xs : List Event) → Accepted n xs → any (isDone n) xs ≡ true
+accepted-complete n xs A =
+    member-any (isDone n) xs (offered n (A .stream) (A .part) (A .bytes) (A .output) (A .result)) (A .when)
+    (and-true (eqb n n) (eqb (A .result .answer .number) 0) (eq-eqb n n refl) (eq-eqb (A .result .answer .number) 0 (A .done)))
+  where
+    and-true : (a b : Bool) → a ≡ true → b ≡ true → a && b ≡ true
+    and-true true b d e = e
+    and-true false b d e = not-both false d refl
+
+reset-member : (t : ℕ) (e : Event) (xs : List Event) → List·Memᴰ e xs → isReset t e ≡ true → List·Memᴰ (Event.reset t) xs
+reset-member t (wrote c r) xs m e = not-both false e refl
+reset-member t (heard s r) xs m e = not-both false e refl
+reset-member t (offered k stream part s out r) xs m e = not-both false e refl
+reset-member t (told stream r) xs m e = not-both false e refl
+reset-member t (collected out r) xs m e = not-both false e refl
+reset-member t (enquired index r) xs m e = not-both false e refl
+reset-member t (Event.reset stream) xs m e = subst (λ j. List·Memᴰ (Event.reset j) xs) (sym (eqb-true t stream e)) m
+
+reset-sound : (t : ℕ) (xs : List Event) → any (isReset t) xs ≡ true → List·Memᴰ (Event.reset t) xs
+reset-sound t xs e = let r = any-member (isReset t) xs e in reset-member t (r .0) xs (r .1) (r .2)
+
+reset-complete : (t : ℕ) (xs : List Event) → List·Memᴰ (Event.reset t) xs → any (isReset t) xs ≡ true
+reset-complete t xs m = member-any (isReset t) xs (Event.reset t) m (eq-eqb t t refl)
+
+-- ---- each event of a list that passes, passes
+event-keeps : (ever : List Written) (before xs ys : List Event) (e : Event) → keepsFrom ever before (xs ++ (e ∷ ys)) ≡ true
+    → keepsEvent ever (past (before ++ xs)) e ≡ true
+event-keeps ever before [] ys e k =
+    rw append-nil (and-both (keepsEvent ever (past before) e) (keepsFrom ever (before ++ (e ∷ [])) ys) k .0)
+event-keeps ever before (x ∷ xs) ys e k =
+    rw append-assoc at (event-keeps ever (before ++ (x ∷ [])) xs ys e
+    (and-both (keepsEvent ever (past before) x) (keepsFrom ever (before ++ (x ∷ [])) (xs ++ (e ∷ ys))) k .1))
+
+module _ (es : List Event) (k : keeps es ≡ true) where
+  at-event : (xs ys : List Event) (e : Event) → es ≡ xs ++ (e ∷ ys) → keepsEvent (writtenIn es) (past xs) e ≡ true
+  unfolding keeps
+  at-event xs ys e p = event-keeps (writtenIn es) [] xs ys e (subst (λ (l : List Event). keepsFrom (writtenIn es) [] l ≡ true) p k)
+
+  module _ (xs ys : List Event) (n stream part : ℕ) (s out : List ℕ) (r : Result) (p : es ≡ xs ++ (offered n stream part s out r ∷ ys)) where
+    -- what the test says of an offered block
+    offer-keeps : (passes (asWritten stream part s out) (at n (writtenIn xs)) ≡ true) × (not (any (isDone n) xs) ≡ true)
+        × (not (eqb part 1) || anyAt (acceptedPlain (past xs) stream) (writtenIn xs) ≡ true) × (not (any (isReset stream) xs) ≡ true)
+    unfolding past
+    offer-keeps =
+        let W = passes (asWritten stream part s out) (at n (writtenIn xs)) in
+        let N = not (any (isDone n) xs) in
+        let T = not (eqb part 1) || anyAt (acceptedPlain (past xs) stream) (writtenIn xs) in
+        let h = and-both (W && N && T) (not (any (isReset stream) xs)) (at-event xs ys (offered n stream part s out r) p) in
+        let g = and-both (W && N) T (h .0) in
+        let f = and-both W N (g .0) in
+        (f .0, f .1, g .1, h .1)
+
+    unchanged : (w : Written) × (at n (writtenIn xs) ≡ some w)
+        × (w .stream ≡ stream) × (w .part ≡ part) × (w .bytes ≡ s) × (length (w .list) ≤ length out)
+    unchanged =
+        let q = passes-some (asWritten stream part s out) (at n (writtenIn xs)) (offer-keeps .0) in
+        let w = q .0 in
+        let S = eqb (w .stream) stream in
+        let P = eqb (w .part) part in
+        let B = same (w .bytes) s in
+        let h = and-both (S && P && B) (leb (length (w .list)) (length out)) (q .2) in
+        let g = and-both (S && P) B (h .0) in
+        let f = and-both S P (g .0) in (
+          w,
+          q .1,
+          eqb-true (w .stream) stream (f .0),
+          eqb-true (w .part) part (f .1),
+          same-eq (w .bytes) s (g .1),
+          leb-true (length (w .list)) (length out) (h .1),
+        )
+
+    once : Accepted n xs → ⊥
+    once A = not-both (any (isDone n) xs) (accepted-complete n xs A) (not-true (any (isDone n) xs) (offer-keeps .1))
+
+    resets : List·Memᴰ (Event.reset stream) xs → ⊥
+    resets m = not-both (any (isReset stream) xs) (reset-complete stream xs m) (not-true (any (isReset stream) xs) (offer-keeps .3))
+
+  trailers : (xs ys : List Event) (n stream : ℕ) (s out : List ℕ) (r : Result) → es ≡ xs ++ (offered n stream 1 s out r ∷ ys)
+      → (j : ℕ) × (w : Written) × (at j (writtenIn xs) ≡ some w) × (w .stream ≡ stream) × (w .part ≡ 0) × Accepted j xs
+  unfolding past
+  trailers xs ys n stream s out r p =
+      let q = anyAt-place (acceptedPlain (past xs) stream) (writtenIn xs) (offer-keeps xs ys n stream 1 s out r p .2) in
+      let j = q .0 in
+      let w = q .1 in
+      let h = and-both (eqb (w .stream) stream && eqb (w .part) 0) (any (isDone j) xs) (q .3) in
+      let g = and-both (eqb (w .stream) stream) (eqb (w .part) 0) (h .0) in
+      (j, w, q .2, eqb-true (w .stream) stream (g .0), eqb-true (w .part) 0 (g .1), accepted-sound j xs (h .1))
+
+  ends : (xs ys : List Event) (stream : ℕ) (r : Result) → es ≡ xs ++ (told stream r ∷ ys) → r .answer .number ≡ 0
+      → ((n : ℕ) (w : Written) → at n (writtenIn es) ≡ some w → w .stream ≡ stream → Accepted n xs) ⊎ List·Memᴰ (Event.reset stream) xs
+  unfolding past
+  ends xs ys stream r p z =
+      ⊎-elim (λ t. not-both (eqb (r .answer .number) 0) (eq-eqb (r .answer .number) 0 z) (not-true (eqb (r .answer .number) 0) t)) all-or-reset
+      (or-either (not (eqb (r .answer .number) 0)) (allAt (otherOrAccepted (past xs) stream) (writtenIn es) || any (isReset stream) xs)
+      (at-event xs ys (told stream r) p))
+    where
+      each : (n : ℕ) (w : Written) → w .stream ≡ stream → otherOrAccepted (past xs) stream n w ≡ true → Accepted n xs
+      each n w e t =
+          ⊎-elim (λ u. not-both (eqb (w .stream) stream) (eq-eqb (w .stream) stream e) (not-true (eqb (w .stream) stream) u))
+          (λ u. accepted-sound n xs u)
+          (or-either (not (eqb (w .stream) stream)) (any (isDone n) xs) t)
+
+      all-or-reset : (allAt (otherOrAccepted (past xs) stream) (writtenIn es) || any (isReset stream) xs) ≡ true
+          → ((n : ℕ) (w : Written) → at n (writtenIn es) ≡ some w → w .stream ≡ stream → Accepted n xs) ⊎ List·Memᴰ (Event.reset stream) xs
+      all-or-reset t =
+          ⊎-elim (λ u. inl (λ n w q e. each n w e (allAt-place (otherOrAccepted (past xs) stream) (writtenIn es) u n w q)))
+          (λ u. inr (reset-sound stream xs u))
+          (or-either (allAt (otherOrAccepted (past xs) stream) (writtenIn es)) (any (isReset stream) xs) t)
+
+pub keeps-sound : (es : List Event) → keeps es ≡ true → Rules es
+unfolding past
+keeps-sound es k = record {
+  management = λ xs ys s r p. begins-sound s (past xs .management) (at-event es k xs ys (heard s r) p);
+  acknowledgements = λ xs ys s r p.
+      begins-sound s (past xs .acknowledgements) (at-event es k xs ys (wrote (calls.EncoderCall.acknowledge s) r) p);
+  unchanged = unchanged es k;
+  once = once es k;
+  trailers = trailers es k;
+  ends = ends es k;
+  resets = resets es k;
+}

@@ -1,0 +1,2 @@
+-- Two closed lists of calls on a link. Examples is the file to read.
+pub mod Examples
