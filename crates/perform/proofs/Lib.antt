@@ -1,0 +1,2 @@
+-- The laws of `perform`, for its functions' proofs.
+pub mod Cases

@@ -1,0 +1,2 @@
+-- What a recorded call does.
+pub mod Performed

@@ -1,0 +1,40 @@
+// What is printed of a line.
+use recording::line::Kind;
+use recording::line::has_output;
+use reply::Reply;
+use text_io::print;
+
+pub fn not_a_call(text: &mut [u8], n: usize, number: u64) -> usize {
+    let a = print::words(text, n, b"line ");
+    let b = print::number(text, a, number);
+    print::words(text, b, b": not a call\n")
+}
+
+// The answer with the told numbers, and what a done call wrote.
+pub fn outcome(kind: Kind, r: Reply, output: &[u8], text: &mut [u8], n: usize) -> usize {
+    let a = print::number(text, n, r.number as u64);
+    let b = told(text, a, r.first);
+    let c = told(text, b, r.second);
+    if r.number == 0 && has_output(kind) {
+        let d = written(output, r.first as usize, text, c);
+        return print::byte(text, d, b'\n');
+    }
+    print::byte(text, c, b'\n')
+}
+
+fn told(text: &mut [u8], n: usize, v: u32) -> usize {
+    let a = print::byte(text, n, b' ');
+    print::number(text, a, v as u64)
+}
+
+// The first `count` bytes of the output. No call answers that it wrote more than the output has.
+fn written(output: &[u8], count: usize, text: &mut [u8], n: usize) -> usize {
+    let a = print::byte(text, n, b' ');
+    if count == 0 {
+        return print::byte(text, a, b'-');
+    }
+    if output.len() < count {
+        return print::byte(text, a, b'?');
+    }
+    print::bytes(text, a, &output[..count])
+}

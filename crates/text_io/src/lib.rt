@@ -1,0 +1,3 @@
+// Text read line by line and written in large pieces, over the kit's `io` and `os`: what the programs over recordings share.
+pub mod lines;
+pub mod print;
