@@ -1,0 +1,34 @@
+/* What single calls of the library are given. */
+#ifndef BENCH_GIVEN_H
+#define BENCH_GIVEN_H
+
+#include "lists.h"
+
+enum { FIRST_INDEX = 62, FIELDS = 8 };
+
+/* The memory that a call is made on; calls.c says what each number means. */
+struct place {
+    size_t entries, deletes, listed, horizon;
+    bool ready;
+};
+
+struct bytes {
+    uint8_t at[4096];
+    size_t length;
+};
+
+/* A delete whose lists are those of the place. */
+void make_delete(struct bytes *bytes, const struct place *place, size_t index);
+
+/* The host's form of a list. */
+void make_list(struct bytes *bytes, const struct list *list);
+
+/* A block: indexes from the first on, or where a list is given its fields as literals with names as strings. */
+void make_block(struct bytes *bytes, const struct list *literals);
+
+/* An insert with the name of the first entry. */
+void make_insert(struct bytes *bytes, size_t index, struct text value);
+
+void make_acknowledgement(struct bytes *bytes, size_t index);
+
+#endif
