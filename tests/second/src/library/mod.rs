@@ -1,0 +1,6 @@
+//! The proved library as a C host reaches it, and its comparison with the second program.
+pub mod calls;
+pub mod compare;
+pub mod layout;
+mod lent;
+pub mod tally;

@@ -1,0 +1,89 @@
+//! How often each call got each answer, and how full the tables were: a run that reaches little would prove little.
+use crate::program::call::{Call, Outcome, Second};
+
+/// One more than the highest number of document 01's table.
+const ANSWERS: usize = 18;
+
+/// Every call with the answers that document 01 lets it give and that bytes and arguments can reach. 15 is none of them: a table of
+/// 128 entries is full, so 7 comes first.
+const REACHABLE: [(&str, &[u8]); 11] = [
+    ("decoder start", &[0, 7, 12]),
+    ("decoder read", &[0, 2, 3, 4, 5, 6, 7, 8, 9, 13, 14, 17]),
+    ("decoder block", &[0, 1, 2, 3, 4, 5, 11, 12, 13, 17]),
+    ("decoder ended", &[0, 11, 17]),
+    ("decoder collect", &[0, 12, 17]),
+    ("decoder hold", &[0, 5, 8, 10, 17]),
+    ("encoder start", &[0, 7, 12]),
+    ("encoder insert", &[0, 7, 12, 13, 17]),
+    ("encoder delete", &[0, 5, 8, 9, 12, 17]),
+    ("encoder block", &[0, 11, 12, 13, 16, 17]),
+    ("encoder acknowledge", &[0, 2, 3, 5, 10, 17]),
+];
+
+#[derive(Clone, Debug, Default)]
+pub struct Tally {
+    counts: [[u64; ANSWERS]; REACHABLE.len()],
+    /// The most entries that an end held: decoder, encoder.
+    most: [usize; 2],
+}
+
+fn place(call: &Call) -> usize {
+    use Call::*;
+    match call {
+        DecoderStart { .. } => 0,
+        DecoderRead { .. } => 1,
+        DecoderBlock { .. } => 2,
+        DecoderEnded { .. } => 3,
+        DecoderCollect { .. } => 4,
+        DecoderHold { .. } => 5,
+        EncoderStart { .. } => 6,
+        EncoderInsert { .. } => 7,
+        EncoderDelete { .. } => 8,
+        EncoderBlock { .. } => 9,
+        EncoderAcknowledge { .. } => 10,
+    }
+}
+
+impl Tally {
+    pub fn count(&mut self, call: &Call, outcome: &Outcome, second: &Second) {
+        self.counts[place(call)][usize::from(outcome.answer)] += 1;
+        let held = [second.decoder.as_ref().map_or(0, |end| end.entries.len()), second.encoder.as_ref().map_or(0, |end| end.entries.len())];
+        self.most = [self.most[0].max(held[0]), self.most[1].max(held[1])];
+    }
+
+    pub fn add(&mut self, other: &Tally) {
+        for (row, more) in self.counts.iter_mut().zip(&other.counts) {
+            row.iter_mut().zip(more).for_each(|(count, more)| *count += more);
+        }
+        self.most = [self.most[0].max(other.most[0]), self.most[1].max(other.most[1])];
+    }
+
+    pub fn calls(&self) -> u64 {
+        self.counts.iter().flatten().sum()
+    }
+
+    /// The lines of a table: each call, and each answer with how often it was given.
+    pub fn lines(&self) -> Vec<String> {
+        let given = |row: &[u64; ANSWERS]| -> String {
+            let pairs = row.iter().enumerate().filter(|(_, &count)| count > 0);
+            pairs.map(|(answer, count)| format!("  {answer}: {count}")).collect()
+        };
+        let mut lines: Vec<String> =
+            REACHABLE.iter().zip(&self.counts).map(|((name, _), row)| format!("{name:20}{}", given(row))).collect();
+        lines.push(format!("most entries held: {} at the decoder, {} at the encoder", self.most[0], self.most[1]));
+        lines
+    }
+
+    /// Answers that no call gave although it can, and the tables that never filled.
+    pub fn missed(&self) -> Vec<String> {
+        let mut missed = Vec::new();
+        for ((name, answers), row) in REACHABLE.iter().zip(&self.counts) {
+            let never = answers.iter().filter(|&&answer| row[usize::from(answer)] == 0);
+            missed.extend(never.map(|answer| format!("{name} never answered {answer}")));
+        }
+        if self.most != [128, 128] {
+            missed.push("128 entries were not held at both ends".to_string());
+        }
+        missed
+    }
+}

@@ -1,0 +1,116 @@
+//! Integers and strings of RFC 7541, 5.1 and 5.2, with document 01's bounds, read by a cursor and written to a vector.
+
+/// The largest integer that is read.
+pub const LARGEST: u64 = (1 << 27) - 1;
+/// The most groups of seven bits that may follow a prefix.
+const GROUPS: u32 = 4;
+/// The longest name and the longest value, in bytes.
+pub const NAME_MOST: u64 = 255;
+pub const VALUE_MOST: u64 = 2047;
+
+/// A number of document 01's table other than 0, and the number told with it.
+#[derive(Clone, Copy, Debug, PartialEq, Eq)]
+pub struct Refusal {
+    pub answer: u8,
+    pub told: u64,
+}
+
+pub type Answer<T> = Result<T, Refusal>;
+
+/// A refusal that tells nothing.
+pub fn refuse<T>(answer: u8) -> Answer<T> {
+    Err(Refusal { answer, told: 0 })
+}
+
+/// Refuses with the number where the condition holds.
+pub fn refuse_if(condition: bool, answer: u8) -> Answer<()> {
+    if condition {
+        refuse(answer)
+    } else {
+        Ok(())
+    }
+}
+
+/// What is left of the bytes, read from the front.
+pub struct Reader<'a> {
+    rest: &'a [u8],
+}
+
+impl<'a> Reader<'a> {
+    pub fn new(bytes: &'a [u8]) -> Self {
+        Reader { rest: bytes }
+    }
+
+    pub fn left(&self) -> usize {
+        self.rest.len()
+    }
+
+    /// The next byte, which stays where it is.
+    pub fn peek(&self) -> Answer<u8> {
+        match self.rest.first() {
+            Some(&byte) => Ok(byte),
+            None => refuse(2),
+        }
+    }
+
+    fn byte(&mut self) -> Answer<u8> {
+        let byte = self.peek()?;
+        self.rest = &self.rest[1..];
+        Ok(byte)
+    }
+
+    /// An integer whose prefix is the low `width` bits of the next byte.
+    pub fn integer(&mut self, width: u32) -> Answer<u64> {
+        let ones = (1u64 << width) - 1;
+        let mut value = u64::from(self.byte()?) & ones;
+        if value < ones {
+            return Ok(value);
+        }
+        for group in 0..GROUPS {
+            let byte = self.byte()?;
+            value += u64::from(byte & 0x7f) << (7 * group);
+            if byte & 0x80 == 0 {
+                refuse_if(value > LARGEST, 3)?;
+                return Ok(value);
+            }
+        }
+        refuse(3)
+    }
+
+    /// A plain string of at most `most` bytes.
+    pub fn string(&mut self, most: u64) -> Answer<Vec<u8>> {
+        refuse_if(self.peek()? & 0x80 != 0, 4)?;
+        let length = self.integer(7)?;
+        refuse_if(length > most, 13)?;
+        refuse_if(length > self.rest.len() as u64, 2)?;
+        let (string, rest) = self.rest.split_at(length as usize);
+        self.rest = rest;
+        Ok(string.to_vec())
+    }
+}
+
+/// Writes an integer behind a pattern of the bits above its prefix, in the fewest bytes.
+pub fn put_integer(out: &mut Vec<u8>, pattern: u8, width: u32, value: u64) {
+    let ones = (1u64 << width) - 1;
+    if value < ones {
+        out.push(pattern | value as u8);
+        return;
+    }
+    out.push(pattern | ones as u8);
+    put_groups(out, value - ones);
+}
+
+/// Writes a number in groups of seven bits, low group first, the top bit set where another follows.
+pub fn put_groups(out: &mut Vec<u8>, mut value: u64) {
+    while value >= 0x80 {
+        out.push(0x80 | (value & 0x7f) as u8);
+        value >>= 7;
+    }
+    out.push(value as u8);
+}
+
+/// Writes a plain string.
+pub fn put_string(out: &mut Vec<u8>, string: &[u8]) {
+    put_integer(out, 0, 7, string.len() as u64);
+    out.extend_from_slice(string);
+}

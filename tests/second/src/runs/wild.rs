@@ -1,0 +1,202 @@
+//! Bytes as a faulty or hostile peer sends them: near to right ones, so that every rule is reached, then mutated.
+use super::words::Words;
+use crate::program::call::Second;
+use crate::program::instructions::STREAMS;
+use crate::program::wire::LARGEST;
+use crate::random::Random;
+use crate::recording::BYTES_MOST;
+
+/// Numbers at the edges of prefixes and of what is allowed.
+const EDGES: [u64; 20] = [0, 1, 60, 61, 62, 63, 64, 126, 127, 128, 189, 190, 254, 255, 256, 4095, 4096, 4097, LARGEST, LARGEST + 1];
+
+/// An index: mostly one that is held, or near, or an edge.
+pub fn index(random: &mut Random, held: &[u64]) -> u64 {
+    match random.below(20) {
+        0 => *random.pick(&EDGES),
+        1 => random.below(LARGEST + 1),
+        2 | 3 => random.between(1, 61),
+        4..=8 => random.between(62, 80),
+        _ if held.is_empty() => random.between(62, 66),
+        _ => *random.pick(held),
+    }
+}
+
+/// The indexes that the decoder holds, and those that the encoder holds.
+pub fn held(second: &Second) -> [Vec<u64>; 2] {
+    let decoder = second.decoder.iter().flat_map(|decoder| decoder.entries.keys().copied()).collect();
+    let encoder = second.encoder.iter().flat_map(|encoder| encoder.entries.keys().copied()).collect();
+    [decoder, encoder]
+}
+
+/// An integer in its shortest form, or padded, or with a group too many; a value above the largest where that is given.
+fn put_integer(random: &mut Random, out: &mut Vec<u8>, pattern: u8, width: u32, value: u64) {
+    let ones = (1u64 << width) - 1;
+    if value < ones {
+        out.push(pattern | value as u8);
+        return;
+    }
+    out.push(pattern | ones as u8);
+    let mut groups = Vec::new();
+    let mut rest = value - ones;
+    while rest > 0 || groups.is_empty() {
+        groups.push((rest & 0x7f) as u8);
+        rest >>= 7;
+    }
+    if random.percent(8) {
+        let padding = random.between(1, 4) as usize;
+        groups.extend(vec![0; padding]);
+    }
+    let last = groups.len() - 1;
+    out.extend(groups.iter().enumerate().map(|(place, group)| if place < last { group | 0x80 } else { *group }));
+}
+
+/// A string, now and then with H set or with a length that is not its own.
+fn put_string(random: &mut Random, out: &mut Vec<u8>, text: &[u8]) {
+    let packed = if random.percent(2) { 0x80 } else { 0 };
+    let length = match random.below(60) {
+        0 => *random.pick(&[255, 256, 2047, 2048, 2049, LARGEST]),
+        1 => text.len() as u64 + 1,
+        _ => text.len() as u64,
+    };
+    put_integer(random, out, packed, 7, length);
+    out.extend_from_slice(text);
+}
+
+fn put_name(random: &mut Random, out: &mut Vec<u8>, pattern: u8, width: u32, held: &[u64], name: &[u8]) {
+    if random.percent(50) {
+        put_integer(random, out, pattern, width, 0);
+        put_string(random, out, name);
+    } else {
+        let index = index(random, held);
+        put_integer(random, out, pattern, width, index);
+    }
+}
+
+fn put_stream_list(random: &mut Random, out: &mut Vec<u8>) {
+    let horizon = match random.below(8) {
+        0 => *random.pick(&[63, 64, 65, 255, 4095, 4096, 4097]),
+        1 => random.below(STREAMS),
+        2..=4 => 0,
+        _ => random.below(8),
+    };
+    put_integer(random, out, 0, 8, horizon);
+    let count = if random.percent(60) { 0 } else { random.below(18) };
+    put_integer(random, out, 0, 8, count);
+    for _ in 0..count {
+        let delta = match random.below(12) {
+            0 => *random.pick(&[0, 64, 254, 255, 256, 4095]),
+            _ => random.between(1, 9),
+        };
+        put_integer(random, out, 0, 8, delta);
+    }
+}
+
+/// An instruction for the decoder.
+pub fn instruction(random: &mut Random, held: &[u64], words: &Words) -> Vec<u8> {
+    let mut out = Vec::new();
+    let kind = random.below(100);
+    if kind < 60 {
+        let new = if random.percent(60) { random.between(62, 200) } else { index(random, held) };
+        put_integer(random, &mut out, 0x80, 7, new);
+        let field = words.field(random);
+        put_name(random, &mut out, 0, 8, held, &field.name);
+        put_string(random, &mut out, &field.value);
+    } else if kind < 98 {
+        let index = index(random, held);
+        put_integer(random, &mut out, 0, 6, index);
+        put_stream_list(random, &mut out);
+        put_stream_list(random, &mut out);
+    } else {
+        out = acknowledgement(random, held);
+    }
+    out
+}
+
+/// An acknowledgement for the encoder.
+pub fn acknowledgement(random: &mut Random, held: &[u64]) -> Vec<u8> {
+    let mut out = Vec::new();
+    let index = index(random, held);
+    put_integer(random, &mut out, 0x40, 6, index);
+    out
+}
+
+/// A block for the decoder.
+pub fn block(random: &mut Random, held: &[u64], words: &Words) -> Vec<u8> {
+    let mut out = Vec::new();
+    let fields = match random.below(300) {
+        // Too long to be a block, or to be told in the lent room.
+        0 => return vec![*random.pick(&[0x82, 0xbe, 0xa0]); *random.pick(&[16_383, 16_384, 16_385, 20_000])],
+        1..=10 => random.between(20, 60),
+        _ => random.below(6),
+    };
+    for _ in 0..fields {
+        if random.percent(50) {
+            let index = if random.percent(98) { index(random, held).max(1) } else { 0 };
+            put_integer(random, &mut out, 0x80, 7, index);
+        } else {
+            let field = words.field(random);
+            let never = if field.never { 0x40 } else { 0 };
+            put_name(random, &mut out, never, 6, held, &field.name);
+            put_string(random, &mut out, &field.value);
+        }
+    }
+    out.truncate(BYTES_MOST);
+    out
+}
+
+/// A field list for the encoder, with lengths that may be padded, too large or not their own.
+pub fn list(random: &mut Random, words: &Words) -> Vec<u8> {
+    let mut out = Vec::new();
+    let fields = match random.below(200) {
+        0 => random.between(1_000, 6_000),
+        1..=4 => random.between(20, 60),
+        _ => random.below(6),
+    };
+    for _ in 0..fields {
+        let field = words.field(random);
+        out.push(if random.percent(99) { u8::from(field.never) } else { random.below(256) as u8 });
+        for text in [&field.name, &field.value] {
+            put_list_length(random, &mut out, text.len() as u64, fields > 60);
+            out.extend_from_slice(text);
+        }
+    }
+    out.truncate(BYTES_MOST);
+    out
+}
+
+fn put_list_length(random: &mut Random, out: &mut Vec<u8>, length: u64, right: bool) {
+    let value = match random.below(if right { 100_000 } else { 120 }) {
+        0 => *random.pick(&[255, 256, 2047, 2048, 16_383, 16_384]),
+        1 => length + 1,
+        _ => length,
+    };
+    let padded = !right && random.percent(1);
+    if value < 0x80 && !padded {
+        out.push(value as u8);
+    } else if value < 0x4000 {
+        out.extend([0x80 | (value & 0x7f) as u8, (value >> 7) as u8]);
+    } else {
+        out.extend([0x80 | (value & 0x7f) as u8, 0x80 | (value >> 7 & 0x7f) as u8, (value >> 14) as u8]);
+    }
+}
+
+/// Changes, cuts, lengthens or replaces bytes.
+pub fn mutate(random: &mut Random, bytes: &mut Vec<u8>) {
+    let at = random.below(bytes.len() as u64 + 1) as usize;
+    match random.below(8) {
+        0 => bytes.truncate(at),
+        1 => bytes.insert(at, random.next() as u8),
+        2 if at < bytes.len() => drop(bytes.remove(at)),
+        3 if at < bytes.len() => bytes[at] = *random.pick(&[0x00, 0x01, 0x7f, 0x80, 0xff, 0x3f, 0x40]),
+        4 if at < bytes.len() => bytes[at] ^= 1 << random.below(8),
+        5 => {
+            let more = random.below(20) as usize;
+            bytes.extend(random.bytes(more));
+        }
+        6 => {
+            let length = *random.pick(&[0, 1, 2, 3, 7, 30]);
+            *bytes = random.bytes(length);
+        }
+        _ => (),
+    }
+}
