@@ -1,6 +1,9 @@
 // The words of a line: where they stand, and the numbers and bytes that they say.
+ghost use mathlib.Core.Path.{_≡_};
 ghost use Prim.Native.Nat.{ℕ, _≤_};
 ghost use lib.ListN.{length};
+ghost use Rattle.memory.specs.Compare.{same as alike};
+ghost use Rattle.recording.specs.Numbers.{digitOf, numberOf};
 use memory::compare::same;
 
 // How many bytes one word can say.
@@ -67,7 +70,9 @@ pub fn next_word(text: &[u8], at: usize) -> Word
 }
 
 // Is the word this one?
-pub fn is(word: &[u8], other: &[u8]) -> bool {
+pub fn is(word: &[u8], other: &[u8]) -> bool
+    ensures { λ r. ⌜ r ≡ alike (now (word .entry)) (now (other .entry)) ⌝ }
+{
     if word.len() != other.len() {
         return false;
     }
@@ -76,7 +81,7 @@ pub fn is(word: &[u8], other: &[u8]) -> bool {
 
 // The value of a decimal digit, and 10 for any other character.
 fn decimal_digit(c: u8) -> u64
-    ensures { λ r. ⌜ r ≤ 10 ⌝ }
+    ensures { λ r. ⌜ (r ≡ digitOf c) × (r ≤ 10) ⌝ }
 {
     match c {
         b'0'..=b'9' => (c - b'0') as u64,
@@ -97,7 +102,9 @@ fn hex_digit(c: u8) -> u8
 }
 
 // The number that a word says in decimal digits, if it is at most 2^64 - 1.
-pub fn number(word: &[u8]) -> NumberRead {
+pub fn number(word: &[u8]) -> NumberRead
+    ensures { λ r. ⌜ r ≡ numberOf (now (word .entry)) ⌝ }
+{
     if word.len() == 0 {
         return NumberRead::Bad;
     }

@@ -1,9 +1,10 @@
 // Runs the calls of recordings (docs/RECORDINGS.md), each file from fresh memory, and prints what each call answers. The arguments name
-// the files; with none, the standard input is run.
+// the files, `-` for the standard input; with none, the standard input is run.
 mod outcome;
 mod run;
 
 use run::run;
+use text_io::files::open_argument;
 
 fn main() {
     let count = os::arg_count();
@@ -13,22 +14,15 @@ fn main() {
     }
     let mut i: usize = 1;
     while i < count {
-        run_named(i);
+        run_argument(i);
         i += 1;
     }
 }
 
 // Runs the file that argument `i` names.
-fn run_named(i: usize) {
-    let mut path = io::buffer();
-    let n = os::arg(i, &mut path);
-    if os::errno() != 0 {
-        os::fail(b"argument");
-        return;
-    }
-    let fd = os::open_read(&path[..n]);
+fn run_argument(i: usize) {
+    let fd = open_argument(i);
     if fd < 0 {
-        os::fail(&path[..n]);
         return;
     }
     run(fd);

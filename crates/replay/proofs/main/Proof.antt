@@ -22,8 +22,8 @@ returns c = tt
 loop-holds : tie.Need-loop-holds Inv-loop μ-loop
 loop-holds c = tt
 
-run-named-requires : tie.Need-run-named-requires Inv-loop μ-loop
-run-named-requires c κs = tt
+run-argument-requires : tie.Need-run-argument-requires Inv-loop μ-loop
+run-argument-requires c κs = tt
 
 add-i : tie.Need-add-i Inv-loop μ-loop
 add-i c = omega arith
@@ -47,7 +47,7 @@ main-spec =
     run-requires
     returns
     loop-holds
-    run-named-requires
+    run-argument-requires
     add-i
     loop-less
     loop-again

@@ -1,0 +1,169 @@
+-- `run::run_lines` meets its contract. The invariant: what is still to be read lies in the input. The measure is how many line numbers are left.
+use mathlib.Core.Path.{_≡_, subst}
+use Prim.Native.Nat.{ℕ, _-_}
+use native.Mathlib.Omega.{arith}
+use lib.ListN.{length}
+use borrow.Author.Needs.{needs}
+use Rattle.text_io.specs.declared.lines.Next.{Next}
+use Rattle.text_io.specs.Lines.{Inside, Placed}
+use Rattle.gateway.proofs.run.run_lines.Statement.{statement}
+use Rattle.gateway.proofs.run.run_lines.Tie as tie
+
+found : (n : ℕ) {x y : Next} → x ≡ y → Placed n x → Placed n y
+found n e p = subst (Placed n) e p
+
+abbrev Inv-loop : tie.InvT-loop
+Inv-loop fd input₀ bytes₀ decoder₀ encoder₀ output₀ text₀ reader₀ tally₀ number₀ input bytes decoder encoder output text reader tally number =
+    Inside (length input) reader × (length input ≡ length input₀) × (length bytes ≡ length bytes₀) × (length decoder ≡ length decoder₀)
+    × (length encoder ≡ length encoder₀) × (length output ≡ length output₀) × (length text ≡ length text₀)
+
+abbrev μ-loop : tie.MeasureT-loop
+μ-loop fd input₀ bytes₀ decoder₀ encoder₀ output₀ text₀ reader₀ tally₀ number₀ input bytes decoder encoder output text reader tally number =
+    18446744073709551615 - number
+
+new-requires : tie.Need-new-requires Inv-loop μ-loop
+new-requires c κs = tt
+
+new-requires-2 : tie.Need-new-requires-2 Inv-loop μ-loop
+new-requires-2 c κs = tt
+
+loop-holds : tie.Need-loop-holds Inv-loop μ-loop
+loop-holds c = omega arith
+
+next-line-requires : tie.Need-next-line-requires Inv-loop μ-loop
+next-line-requires c κs = omega arith
+
+enum-told : tie.Need-enum-told Inv-loop μ-loop
+enum-told c = search needs
+
+summary-requires : tie.Need-summary-requires Inv-loop μ-loop
+summary-requires c κs = tt
+
+same-length : tie.Need-same-length Inv-loop μ-loop
+same-length c = omega arith
+
+same-length-2 : tie.Need-same-length-2 Inv-loop μ-loop
+same-length-2 c = omega arith
+
+same-length-3 : tie.Need-same-length-3 Inv-loop μ-loop
+same-length-3 c = omega arith
+
+same-length-4 : tie.Need-same-length-4 Inv-loop μ-loop
+same-length-4 c = omega arith
+
+same-length-5 : tie.Need-same-length-5 Inv-loop μ-loop
+same-length-5 c = omega arith
+
+same-length-6 : tie.Need-same-length-6 Inv-loop μ-loop
+same-length-6 c = omega arith
+
+returns : tie.Need-returns Inv-loop μ-loop
+returns c = tt
+
+enum-known-next : tie.Need-enum-known-next Inv-loop μ-loop
+enum-known-next c = search needs
+
+add-number : tie.Need-add-number Inv-loop μ-loop
+add-number c = omega arith
+
+long-line-requires : tie.Need-long-line-requires Inv-loop μ-loop
+long-line-requires c κs = tt
+
+with-bad-requires : tie.Need-with-bad-requires Inv-loop μ-loop
+with-bad-requires c κs = tt
+
+loop-less : tie.Need-loop-less Inv-loop μ-loop
+loop-less c = omega arith
+
+loop-again : tie.Need-loop-again Inv-loop μ-loop
+loop-again c = let p = found _ (c .before .before .before .before .before .before .next .given .1) (c .before .before .before .before .before .before .before .before .before .before .next-line .ensures) in omega arith
+
+enum-known-next-2 : tie.Need-enum-known-next-2 Inv-loop μ-loop
+enum-known-next-2 c = search needs
+
+add-number-2 : tie.Need-add-number-2 Inv-loop μ-loop
+add-number-2 c = omega arith
+
+sub-run-line : tie.Need-sub-run-line Inv-loop μ-loop
+sub-run-line c = let p = found _ (c .before .next2 .given .1) (c .before .before .before .before .before .next-line .ensures) in omega arith
+
+part-run-line-start : tie.Need-part-run-line-start Inv-loop μ-loop
+part-run-line-start c = let p = found _ (c .before .before .next2 .given .1) (c .before .before .before .before .before .before .next-line .ensures) in omega arith
+
+part-run-line-end : tie.Need-part-run-line-end Inv-loop μ-loop
+part-run-line-end c = let p = found _ (c .before .before .next2 .given .1) (c .before .before .before .before .before .before .next-line .ensures) in omega arith
+
+run-line-requires : tie.Need-run-line-requires Inv-loop μ-loop
+run-line-requires c κs = tt
+
+loop-less-2 : tie.Need-loop-less-2 Inv-loop μ-loop
+loop-less-2 c = omega arith
+
+loop-again-2 : tie.Need-loop-again-2 Inv-loop μ-loop
+loop-again-2 c =
+    let p = found _ (c .before .before .before .before .before .before .before .before .before .before .before .before .before .before .before .before .before .before .before .next2 .given .1) (c .before .before .before .before .before .before .before .before .before .before .before .before .before .before .before .before .before .before .before .before .before .before .before .next-line .ensures) in
+    let i = c .before .before .before .before .before .before .before .before .before .before .before .before .before .before .before .before .before .before .before .before .before .before .before .before .before .before .loop .inv in
+    let k = c .before .before .before .before .before .before .before .before .before .before .before .before .before .before .before .before .before .before .before .before .before .before .input .given in
+    omega arith
+
+same-length-7 : tie.Need-same-length-7 Inv-loop μ-loop
+same-length-7 c = omega arith
+
+same-length-8 : tie.Need-same-length-8 Inv-loop μ-loop
+same-length-8 c = omega arith
+
+same-length-9 : tie.Need-same-length-9 Inv-loop μ-loop
+same-length-9 c = omega arith
+
+same-length-10 : tie.Need-same-length-10 Inv-loop μ-loop
+same-length-10 c = omega arith
+
+same-length-11 : tie.Need-same-length-11 Inv-loop μ-loop
+same-length-11 c = omega arith
+
+same-length-12 : tie.Need-same-length-12 Inv-loop μ-loop
+same-length-12 c = omega arith
+
+returns-2 : tie.Need-returns-2 Inv-loop μ-loop
+returns-2 c = tt
+
+pub run-lines-spec : {M : Type 1} → statement M
+run-lines-spec =
+    tie.close
+    (tie.spec
+    Inv-loop
+    μ-loop
+    new-requires
+    new-requires-2
+    loop-holds
+    next-line-requires
+    enum-told
+    summary-requires
+    same-length
+    same-length-2
+    same-length-3
+    same-length-4
+    same-length-5
+    same-length-6
+    returns
+    enum-known-next
+    add-number
+    long-line-requires
+    with-bad-requires
+    loop-less
+    loop-again
+    enum-known-next-2
+    add-number-2
+    sub-run-line
+    part-run-line-start
+    part-run-line-end
+    run-line-requires
+    loop-less-2
+    loop-again-2
+    same-length-7
+    same-length-8
+    same-length-9
+    same-length-10
+    same-length-11
+    same-length-12
+    returns-2)

@@ -1,0 +1,125 @@
+// What is printed, a line at a time.
+use crate::run::Tally;
+use names::answer_name;
+use names::fault_name;
+use names::kind_name;
+use names::part_name;
+use recording::line::Call;
+use recording::line::Fault;
+use recording::line::Kind;
+use reply::Reply;
+use reports::readable::report;
+use text_io::print;
+
+fn end_line(text: &mut [u8], n: usize) {
+    let a = print::byte(text, n, b'\n');
+    print::flush(text, a);
+}
+
+fn refused(text: &mut [u8], n: usize, answer: u8) -> usize {
+    let a = print::words(text, n, b"refused ");
+    let b = print::number(text, a, answer as u64);
+    let c = print::words(text, b, b": ");
+    answer_name(text, c, answer)
+}
+
+// Which block it is.
+fn heading(text: &mut [u8], stream: u64, part: u64) -> usize {
+    let a = print::words(text, 0, b"stream ");
+    let b = print::number(text, a, stream);
+    let c = print::byte(text, b, b' ');
+    let d = part_name(text, c, part);
+    print::words(text, d, b": ")
+}
+
+// A block that was offered to the decoder.
+fn block(text: &mut [u8], stream: u64, part: u64, r: Reply, output: &[u8]) {
+    let a = heading(text, stream, part);
+    let b = outcome(text, a, r, output);
+    end_line(text, b);
+}
+
+fn outcome(text: &mut [u8], n: usize, r: Reply, output: &[u8]) -> usize {
+    let answer = r.number;
+    match answer {
+        0 => {
+            let a = print::words(text, n, b"done: ");
+            fields(text, a, output, r.first as usize)
+        }
+        1 => {
+            let a = print::words(text, n, b"waits for index ");
+            print::number(text, a, r.first as u64)
+        }
+        _ => refused(text, n, answer),
+    }
+}
+
+// The fields in the first `count` bytes of the output. No call answers that it wrote more than the output has.
+fn fields(text: &mut [u8], n: usize, output: &[u8], count: usize) -> usize {
+    if output.len() < count {
+        return n;
+    }
+    report(text, n, &output[..count])
+}
+
+// What a call did: a line for each block offered to the decoder, and for each other call that is refused.
+pub fn tell(text: &mut [u8], call: Call, r: Reply, output: &[u8]) {
+    let kind = call.kind;
+    if let Kind::DecoderBlock = kind {
+        block(text, call.first, call.second, r, output);
+        return;
+    }
+    if r.number == 0 {
+        return;
+    }
+    let a = kind_name(text, 0, kind);
+    let b = print::byte(text, a, b' ');
+    let c = refused(text, b, r.number);
+    end_line(text, c);
+}
+
+fn not_a_call(text: &mut [u8], number: u64) -> usize {
+    let a = print::words(text, 0, b"line ");
+    let b = print::number(text, a, number);
+    print::words(text, b, b": not a call: ")
+}
+
+pub fn bad_line(text: &mut [u8], number: u64, fault: Fault) {
+    let a = not_a_call(text, number);
+    let b = fault_name(text, a, fault);
+    end_line(text, b);
+}
+
+pub fn long_line(text: &mut [u8], number: u64) {
+    let a = not_a_call(text, number);
+    let b = print::words(text, a, b"longer than 65,535 characters");
+    end_line(text, b);
+}
+
+// A number, and what it counts.
+fn count(text: &mut [u8], n: usize, v: u64, what: &[u8]) -> usize {
+    let a = print::number(text, n, v);
+    print::words(text, a, what)
+}
+
+fn lines_counted(text: &mut [u8], lines: u64, t: Tally) -> usize {
+    let a = count(text, 0, lines, b" lines, ");
+    let b = count(text, a, t.calls, b" calls, ");
+    count(text, b, t.bad, b" bad lines; ")
+}
+
+fn blocks_counted(text: &mut [u8], n: usize, t: Tally) -> usize {
+    let a = print::words(text, n, b"blocks: ");
+    let b = count(text, a, t.done, b" done, ");
+    let c = count(text, b, t.waiting, b" waiting, ");
+    count(text, c, t.refused, b" refused; ")
+}
+
+// How many lines and calls there were, and what became of them.
+pub fn summary(text: &mut [u8], lines: u64, t: Tally) {
+    let a = lines_counted(text, lines, t);
+    let b = blocks_counted(text, a, t);
+    let c = print::words(text, b, b"other calls refused: ");
+    let d = print::number(text, c, t.others);
+    end_line(text, d);
+}

@@ -1,0 +1,2 @@
+-- The laws of `recording`, for its functions' proofs.
+pub mod Digits

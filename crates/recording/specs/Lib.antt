@@ -1,0 +1,2 @@
+-- What the words of a recording say.
+pub mod Numbers

@@ -1,0 +1,2 @@
+-- The laws of `reports`, for its functions' proofs.
+pub mod Saying

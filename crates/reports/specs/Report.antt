@@ -1,0 +1,53 @@
+-- The hours that a field list says. "hours = (turns x 65,536 + counter) / 10": the counter is the field `hours`, in tenths of an hour.
+use Prim.Native.Nat.{ℕ, _+_, _*_}
+use mathlib.Core.List.{List, [], _∷_}
+use lib.Dec.{leb}
+use Rattle.memory.specs.Choice.{pick}
+use Rattle.memory.specs.Compare.{same}
+use Rattle.fields.specs.Form.{Field}
+use Rattle.fields.specs.Reading.{ListRead, ListRead.list, ListRead.refused}
+use Rattle.recording.specs.Numbers.{numberOf}
+use Rattle.recording.specs.declared.words.NumberRead.{NumberRead}
+use Rattle.recording.specs.declared.words.NumberRead.the-variants.{Value, Bad}
+use Rattle.reports.specs.declared.hours.Said.{Said}
+use Rattle.reports.specs.declared.hours.Said.the-variants.{Nothing, Once, Unclear}
+use Rattle.reports.specs.declared.hours.Hours.{Hours}
+use Rattle.reports.specs.declared.hours.Hours.the-variants.{Tenths, Unknown}
+
+-- the names, in ASCII
+abbrev pub turnsName : List ℕ
+turnsName = 116 ∷ 117 ∷ 114 ∷ 110 ∷ 115 ∷ []
+
+abbrev pub hoursName : List ℕ
+hoursName = 104 ∷ 111 ∷ 117 ∷ 114 ∷ 115 ∷ []
+
+-- a number of 16 bits counts
+abbrev pub fromNumber : NumberRead → Said
+fromNumber (Value n) = pick (leb n 65535) (Once n) Unclear
+fromNumber Bad = Unclear
+
+-- the first value counts if it is such a number; after a second one nothing is clear
+abbrev pub withValue : Said → List ℕ → Said
+withValue Nothing v = fromNumber (numberOf v)
+withValue (Once n) v = Unclear
+withValue Unclear v = Unclear
+
+abbrev pub withField : List ℕ → Said → Field → Said
+withField name before f = pick (same (f .name) name) (withValue before (f .value)) before
+
+-- what the fields say under a name, after what was said before
+unfoldable pub said : List ℕ → List Field → Said → Said
+said name [] before = before
+said name (f ∷ fs) before = said name fs (withField name before f)
+
+-- the turns and the counter, in tenths of an hour
+abbrev pub combined : Said → Said → Hours
+combined (Once t) (Once c) = Tenths (t * 65536 + c)
+combined (Once t) Nothing = Unknown
+combined (Once t) Unclear = Unknown
+combined Nothing c = Unknown
+combined Unclear c = Unknown
+
+unfoldable pub hoursOf : ListRead → Hours
+hoursOf (list fs) = combined (said turnsName fs Nothing) (said hoursName fs Nothing)
+hoursOf (refused number) = Unknown
