@@ -2,7 +2,6 @@
 // hours of the machine that they report, or what the block waits for, or why it is refused. The argument names the file, `-` the standard
 // input; with none, the sample recording is run.
 mod run;
-mod tell;
 
 use run::run;
 use text_io::files::open_argument;

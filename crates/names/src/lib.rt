@@ -1,12 +1,12 @@
 // Words for what the programs tell: answers, calls, parts and faults. A table of words is a text with a line for each number from 0 on.
 use hex::line_end;
-use recording::line::Fault;
-use recording::line::Kind;
+use recording::Fault;
+use recording::Kind;
 use text_io::print::number;
 use text_io::print::words;
 
 // Line `k` of a table.
-fn entry(text: &mut [u8], n: usize, table: &[u8], k: usize) -> usize {
+pub fn entry(text: &mut [u8], n: usize, table: &[u8], k: usize) -> usize {
     let mut left = k;
     let mut at: usize = 0;
     while at < table.len() {

@@ -7,8 +7,8 @@ use lib.Seq.{take-all}
 use Rattle.integers.specs.Answers.{Answer}
 use Rattle.reply.specs.Result.{Result}
 use Rattle.encoder.specs.Calls.{insertCall}
-use Rattle.recording.specs.declared.line.Call.{Call}
-use Rattle.recording.specs.declared.line.Kind.{Kind}
+use Rattle.recording.specs.declared.Call.{Call}
+use Rattle.recording.specs.declared.Kind.{Kind}
 use Rattle.perform.specs.Performed.{Performed, performedAs, performed}
 
 -- the answer, both memories and the output, as a contract has them

@@ -6,9 +6,9 @@ use Rattle.integers.specs.Answers.{Answer}
 use Rattle.reply.specs.Result.{Result}
 use Rattle.decoder.specs.Calls as decoding
 use Rattle.encoder.specs.Calls as encoding
-use Rattle.recording.specs.declared.line.Call.{Call}
-use Rattle.recording.specs.declared.line.Kind.{Kind}
-use Rattle.recording.specs.declared.line.Kind.the-variants.{DecoderStart, DecoderRead, DecoderBlock, DecoderEnded, DecoderCollect, DecoderHold, EncoderStart, EncoderInsert, EncoderDelete, EncoderBlock, EncoderAcknowledge}
+use Rattle.recording.specs.declared.Call.{Call}
+use Rattle.recording.specs.declared.Kind.{Kind}
+use Rattle.recording.specs.declared.Kind.the-variants.{DecoderStart, DecoderRead, DecoderBlock, DecoderEnded, DecoderCollect, DecoderHold, EncoderStart, EncoderInsert, EncoderDelete, EncoderBlock, EncoderAcknowledge}
 
 -- the answer, both memories and the output afterwards
 pub record Performed : Type 0 where

@@ -4,8 +4,11 @@ ghost use mathlib.Core.List.{_++_};
 ghost use lib.ListN.{take, drop};
 ghost use Rattle.reply.specs.Reply.{answerOf};
 ghost use Rattle.perform.specs.Performed.{performed};
-use recording::line::Call;
-use recording::line::Kind;
+
+pub mod line;
+
+use recording::Call;
+use recording::Kind;
 use reply::Reply;
 
 // The first `n` bytes, or all where there are not so many.

@@ -1,6 +1,6 @@
 // What is printed of a line.
-use recording::line::Kind;
-use recording::line::has_output;
+use recording::Kind;
+use recording::has_output;
 use reply::Reply;
 use text_io::print;
 

@@ -1,9 +1,8 @@
 // One recording: its lines, one after another, on two memories.
 use crate::outcome::not_a_call;
 use crate::outcome::outcome;
-use perform::perform_within;
-use recording::line::Line;
-use recording::line::read_line;
+use perform::line::Ran;
+use perform::line::run_line;
 use text_io::lines::Next;
 use text_io::lines::Reader;
 use text_io::lines::next_line;
@@ -11,7 +10,6 @@ use text_io::print;
 
 pub fn run(fd: i32) {
     let mut input = io::large_buffer();
-    let mut bytes = io::large_buffer();
     let mut decoder = io::large_buffer();
     let mut encoder = io::large_buffer();
     let mut output = io::large_buffer();
@@ -19,7 +17,6 @@ pub fn run(fd: i32) {
     let n = run_lines(
         fd,
         &mut input,
-        &mut bytes,
         &mut decoder,
         &mut encoder,
         &mut output,
@@ -32,7 +29,6 @@ pub fn run(fd: i32) {
 fn run_lines(
     fd: i32,
     input: &mut [u8],
-    bytes: &mut [u8],
     decoder: &mut [u8],
     encoder: &mut [u8],
     output: &mut [u8],
@@ -52,39 +48,20 @@ fn run_lines(
             }
             Next::Line(from, to, r) => {
                 reader = r;
-                n = run_line(
-                    &input[from..to],
-                    number,
-                    bytes,
-                    decoder,
-                    encoder,
-                    output,
-                    text,
-                    n,
-                );
+                let ran = run_line(&input[from..to], decoder, encoder, output);
+                n = told(ran, number, output, text, n);
             }
         }
     }
     n
 }
 
-// Runs a line.
-fn run_line(
-    line: &[u8],
-    number: u64,
-    bytes: &mut [u8],
-    decoder: &mut [u8],
-    encoder: &mut [u8],
-    output: &mut [u8],
-    text: &mut [u8],
-    n: usize,
-) -> usize {
-    let l = read_line(line, bytes);
-    match l {
-        Line::Comment => n,
-        Line::Bad(_) => not_a_call(text, n, number),
-        Line::Recorded(call) => {
-            let r = perform_within(call, bytes, decoder, encoder, output);
+// Prints what became of a line.
+fn told(ran: Ran, number: u64, output: &[u8], text: &mut [u8], n: usize) -> usize {
+    match ran {
+        Ran::Comment => n,
+        Ran::Bad(_) => not_a_call(text, n, number),
+        Ran::Answered(call, r) => {
             let kind = call.kind;
             outcome(kind, r, output, text, n)
         }

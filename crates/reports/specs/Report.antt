@@ -6,9 +6,9 @@ use Rattle.memory.specs.Choice.{pick}
 use Rattle.memory.specs.Compare.{same}
 use Rattle.fields.specs.Form.{Field}
 use Rattle.fields.specs.Reading.{ListRead, ListRead.list, ListRead.refused}
-use Rattle.recording.specs.Numbers.{numberOf}
-use Rattle.recording.specs.declared.words.NumberRead.{NumberRead}
-use Rattle.recording.specs.declared.words.NumberRead.the-variants.{Value, Bad}
+use Rattle.words.specs.Numbers.{numberOf}
+use Rattle.words.specs.declared.NumberRead.{NumberRead}
+use Rattle.words.specs.declared.NumberRead.the-variants.{Value, Bad}
 use Rattle.reports.specs.declared.hours.Said.{Said}
 use Rattle.reports.specs.declared.hours.Said.the-variants.{Nothing, Once, Unclear}
 use Rattle.reports.specs.declared.hours.Hours.{Hours}

@@ -1,15 +1,15 @@
 // The hours of a report: a counter of tenths of an hour, and how often it has turned over.
 ghost use mathlib.Core.Path.{_≡_};
 ghost use Rattle.fields.specs.Reading.{readList, textOf, fieldOf, InText};
-ghost use Rattle.recording.specs.Numbers.{numberOf};
+ghost use Rattle.words.specs.Numbers.{numberOf};
 ghost use Rattle.reports.specs.Report.{fromNumber, withValue, withField, combined, hoursOf};
 use fields::read::FieldPlace;
 use fields::read::FieldRead;
 use fields::read::TextPlace;
 use fields::read::read_field;
-use recording::words::NumberRead;
-use recording::words::is;
-use recording::words::number;
+use words::NumberRead;
+use words::is;
+use words::number;
 
 // What a list says under a name: nothing, a number once, or nothing that counts, since it is said twice or is no number of 0 to 65,535.
 pub enum Said {

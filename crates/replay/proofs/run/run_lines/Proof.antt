@@ -13,12 +13,12 @@ found : (n : ℕ) {x y : Next} → x ≡ y → Placed n x → Placed n y
 found n e p = subst (Placed n) e p
 
 abbrev Inv-loop : tie.InvT-loop
-Inv-loop fd input₀ bytes₀ decoder₀ encoder₀ output₀ text₀ reader₀ n₀ number₀ input bytes decoder encoder output text reader n number =
-    Inside (length input) reader × (length input ≡ length input₀) × (length bytes ≡ length bytes₀) × (length decoder ≡ length decoder₀)
+Inv-loop fd input₀ decoder₀ encoder₀ output₀ text₀ reader₀ n₀ number₀ input decoder encoder output text reader n number =
+    Inside (length input) reader × (length input ≡ length input₀) × (length decoder ≡ length decoder₀)
     × (length encoder ≡ length encoder₀) × (length output ≡ length output₀) × (length text ≡ length text₀)
 
 abbrev μ-loop : tie.MeasureT-loop
-μ-loop fd input₀ bytes₀ decoder₀ encoder₀ output₀ text₀ reader₀ n₀ number₀ input bytes decoder encoder output text reader n number =
+μ-loop fd input₀ decoder₀ encoder₀ output₀ text₀ reader₀ n₀ number₀ input decoder encoder output text reader n number =
     18446744073709551615 - number
 
 new-requires : tie.Need-new-requires Inv-loop μ-loop
@@ -51,9 +51,6 @@ same-length-4 c = omega arith
 same-length-5 : tie.Need-same-length-5 Inv-loop μ-loop
 same-length-5 c = omega arith
 
-same-length-6 : tie.Need-same-length-6 Inv-loop μ-loop
-same-length-6 c = omega arith
-
 returns : tie.Need-returns Inv-loop μ-loop
 returns c = tt
 
@@ -84,11 +81,21 @@ part-run-line-end c = let p = found _ (c .before .before .next2 .given .1) (c .b
 run-line-requires : tie.Need-run-line-requires Inv-loop μ-loop
 run-line-requires c κs = tt
 
+told-requires : tie.Need-told-requires Inv-loop μ-loop
+told-requires c κs = tt
+
 loop-less-2 : tie.Need-loop-less-2 Inv-loop μ-loop
 loop-less-2 c = omega arith
 
 loop-again-2 : tie.Need-loop-again-2 Inv-loop μ-loop
-loop-again-2 c = let p = found _ (c .before .before .before .before .before .before .before .before .before .before .before .before .before .before .before .before .before .before .before .next2 .given .1) (c .before .before .before .before .before .before .before .before .before .before .before .before .before .before .before .before .before .before .before .before .before .before .before .next-line .ensures) in omega arith
+loop-again-2 c =
+    let p = found _ (c .before .before .before .before .before .before .before .before .before .before .before .before .before .before .before .before .before .before .next2 .given .1) (c .before .before .before .before .before .before .before .before .before .before .before .before .before .before .before .before .before .before .before .before .before .before .next-line .ensures) in
+    let i = c .before .before .before .before .before .before .before .before .before .before .before .before .before .before .before .before .before .before .before .before .before .before .before .before .before .loop .inv in
+    let k = c .before .before .before .before .before .before .before .before .before .before .before .before .before .before .before .before .before .before .before .before .before .input .given in
+    omega arith
+
+same-length-6 : tie.Need-same-length-6 Inv-loop μ-loop
+same-length-6 c = omega arith
 
 same-length-7 : tie.Need-same-length-7 Inv-loop μ-loop
 same-length-7 c = omega arith
@@ -101,12 +108,6 @@ same-length-9 c = omega arith
 
 same-length-10 : tie.Need-same-length-10 Inv-loop μ-loop
 same-length-10 c = omega arith
-
-same-length-11 : tie.Need-same-length-11 Inv-loop μ-loop
-same-length-11 c = omega arith
-
-same-length-12 : tie.Need-same-length-12 Inv-loop μ-loop
-same-length-12 c = omega arith
 
 returns-2 : tie.Need-returns-2 Inv-loop μ-loop
 returns-2 c = tt
@@ -127,7 +128,6 @@ run-lines-spec =
     same-length-3
     same-length-4
     same-length-5
-    same-length-6
     returns
     enum-known-next
     not-a-call-requires
@@ -138,12 +138,12 @@ run-lines-spec =
     part-run-line-start
     part-run-line-end
     run-line-requires
+    told-requires
     loop-less-2
     loop-again-2
+    same-length-6
     same-length-7
     same-length-8
     same-length-9
     same-length-10
-    same-length-11
-    same-length-12
     returns-2)

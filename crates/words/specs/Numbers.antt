@@ -3,8 +3,8 @@ use Prim.Native.Nat.{ℕ, _+_, _-_, _*_, _/_}
 use mathlib.Core.List.{List, [], _∷_}
 use lib.Dec.{ltb, leb}
 use Rattle.memory.specs.Choice.{pick, need}
-use Rattle.recording.specs.declared.words.NumberRead.{NumberRead}
-use Rattle.recording.specs.declared.words.NumberRead.the-variants.{Value, Bad}
+use Rattle.words.specs.declared.NumberRead.{NumberRead}
+use Rattle.words.specs.declared.NumberRead.the-variants.{Value, Bad}
 
 -- "Numbers are decimal, 0 to 18,446,744,073,709,551,615."
 abbrev pub largest : ℕ

@@ -1,10 +1,10 @@
--- `words::bytes` is safe and ends. The invariant: both digits of each byte lie in the word, and each byte has its place in `out`.
+-- `bytes` is safe and ends. The invariant: both digits of each byte lie in the word, and each byte has its place in `out`.
 use mathlib.Core.Path.{_≡_, refl}
 use Prim.Native.Nat.{_+_, _-_, _*_, _≤_}
 use native.Mathlib.Omega.{arith}
 use lib.ListN.{length, length-set}
-use Rattle.recording.proofs.words.bytes.Statement.{statement}
-use Rattle.recording.proofs.words.bytes.Tie as tie
+use Rattle.words.proofs.bytes.Statement.{statement}
+use Rattle.words.proofs.bytes.Tie as tie
 
 abbrev Inv-loop : tie.InvT-loop
 Inv-loop word out₀ at n i₀ out i = (length out ≡ length out₀) × (2 * n ≤ length word) × (at + n ≤ length out)

@@ -1,9 +1,9 @@
--- `words::word_end` meets its contract. The invariant: the place is in the word, from its start to the end of the text.
+-- `word_end` meets its contract. The invariant: the place is in the word, from its start to the end of the text.
 use Prim.Native.Nat.{_-_, _≤_}
 use native.Mathlib.Omega.{arith}
 use lib.ListN.{length}
-use Rattle.recording.proofs.words.word_end.Statement.{statement}
-use Rattle.recording.proofs.words.word_end.Tie as tie
+use Rattle.words.proofs.word_end.Statement.{statement}
+use Rattle.words.proofs.word_end.Tie as tie
 
 abbrev Inv-loop : tie.InvT-loop
 Inv-loop text at i₀ i = (at ≤ i) × (i ≤ length text)

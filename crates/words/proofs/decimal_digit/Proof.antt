@@ -1,11 +1,11 @@
--- `words::decimal_digit` meets its contract, by the tests of its arms.
+-- `decimal_digit` meets its contract, by the tests of its arms.
 use Prim.Native.Nat.{_-_}
 use native.Mathlib.Omega.{arith}
 use borrow.Author.Tests.{le-leb, lt-leb}
-use Rattle.recording.specs.Numbers.{digitOf}
+use Rattle.words.specs.Numbers.{digitOf}
 use borrow.Author.Needs.{needs}
-use Rattle.recording.proofs.words.decimal_digit.Statement.{statement}
-use Rattle.recording.proofs.words.decimal_digit.Tie as tie
+use Rattle.words.proofs.decimal_digit.Statement.{statement}
+use Rattle.words.proofs.decimal_digit.Tie as tie
 
 cast-result : tie.Need-cast-result
 cast-result c = search needs

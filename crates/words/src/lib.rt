@@ -1,9 +1,9 @@
-// The words of a line: where they stand, and the numbers and bytes that they say.
+// The words of a line of text: where they stand, and the numbers and bytes that they say.
 ghost use mathlib.Core.Path.{_≡_};
 ghost use Prim.Native.Nat.{ℕ, _≤_};
 ghost use lib.ListN.{length};
 ghost use Rattle.memory.specs.Compare.{same as alike};
-ghost use Rattle.recording.specs.Numbers.{digitOf, numberOf};
+ghost use Rattle.words.specs.Numbers.{digitOf, numberOf};
 use memory::compare::same;
 
 // How many bytes one word can say.

@@ -1,9 +1,9 @@
--- `words::past_spaces` is safe and ends. The measure is what is left of the text.
+-- `past_spaces` is safe and ends. The measure is what is left of the text.
 use Prim.Native.Nat.{_-_}
 use native.Mathlib.Omega.{arith}
 use lib.ListN.{length}
-use Rattle.recording.proofs.words.past_spaces.Statement.{statement}
-use Rattle.recording.proofs.words.past_spaces.Tie as tie
+use Rattle.words.proofs.past_spaces.Statement.{statement}
+use Rattle.words.proofs.past_spaces.Tie as tie
 
 abbrev Inv-loop : tie.InvT-loop
 Inv-loop text at i₀ i = Unit {0}

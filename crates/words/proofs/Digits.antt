@@ -7,9 +7,9 @@ use native.Mathlib.Numerals.{add-one}
 use lib.ListN.{length, drop, getD, drop-of-length-le}
 use lib.Seq.{drop-cons}
 use borrow.Author.Tests.{lt-ltb, le-ltb, le-leb, lt-leb}
-use Rattle.recording.specs.Numbers.{largest, digitOf, digitsFrom, numberOf}
-use Rattle.recording.specs.declared.words.NumberRead.{NumberRead}
-use Rattle.recording.specs.declared.words.NumberRead.the-variants.{Value, Bad}
+use Rattle.words.specs.Numbers.{largest, digitOf, digitsFrom, numberOf}
+use Rattle.words.specs.declared.NumberRead.{NumberRead}
+use Rattle.words.specs.declared.NumberRead.the-variants.{Value, Bad}
 
 pub number-none : (s : List ℕ) → length s ≡ 0 → numberOf s ≡ Bad
 unfolding numberOf

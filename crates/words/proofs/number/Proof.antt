@@ -1,12 +1,12 @@
--- `words::number` meets its contract. The invariant: the word's number is what the digits from the place on say after those before it.
+-- `number` meets its contract. The invariant: the word's number is what the digits from the place on say after those before it.
 use mathlib.Core.Path.{_≡_, sym, _∙_}
 use Prim.Native.Nat.{_-_}
 use native.Mathlib.Omega.{arith}
 use lib.ListN.{length, drop}
-use Rattle.recording.specs.Numbers.{numberOf, digitsFrom}
-use Rattle.recording.proofs.Digits.{number-none, number-some, digits-done, digits-other, digits-over, digits-more}
-use Rattle.recording.proofs.words.number.Statement.{statement}
-use Rattle.recording.proofs.words.number.Tie as tie
+use Rattle.words.specs.Numbers.{numberOf, digitsFrom}
+use Rattle.words.proofs.Digits.{number-none, number-some, digits-done, digits-other, digits-over, digits-more}
+use Rattle.words.proofs.number.Statement.{statement}
+use Rattle.words.proofs.number.Tie as tie
 
 abbrev Inv-loop : tie.InvT-loop
 Inv-loop word n₀ i₀ n i = numberOf word ≡ digitsFrom (drop i word) n

@@ -1,4 +1,4 @@
--- `words::is` meets its contract: words of one length are compared whole.
+-- `is` meets its contract: words of one length are compared whole.
 use mathlib.Core.Path.{_≡_, sym, _∙_, ap}
 use mathlib.Core.List.{List}
 use Prim.Native.Nat.{ℕ}
@@ -9,8 +9,8 @@ use Rattle.memory.specs.Compare.{sameAt}
 use Rattle.memory.specs.Compare.{same as alike}
 use Rattle.memory.proofs.Sameness.{length-same, sameAt-same}
 use borrow.Author.Needs.{needs}
-use Rattle.recording.proofs.words.is.Statement.{statement}
-use Rattle.recording.proofs.words.is.Tie as tie
+use Rattle.words.proofs.is.Statement.{statement}
+use Rattle.words.proofs.is.Tie as tie
 
 whole-same : (a b : List ℕ) → length a ≡ length b → sameAt (length a) a 0 b 0 ≡ alike a b
 whole-same a b h =

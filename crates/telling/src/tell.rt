@@ -1,12 +1,13 @@
 // What is printed, a line at a time.
-use crate::run::Tally;
+use crate::tally::Tally;
 use names::answer_name;
+use names::entry;
 use names::fault_name;
 use names::kind_name;
 use names::part_name;
-use recording::line::Call;
-use recording::line::Fault;
-use recording::line::Kind;
+use recording::Call;
+use recording::Fault;
+use recording::Kind;
 use reply::Reply;
 use reports::readable::report;
 use text_io::print;
@@ -96,30 +97,23 @@ pub fn long_line(text: &mut [u8], number: u64) {
     end_line(text, b);
 }
 
-// A number, and what it counts.
-fn count(text: &mut [u8], n: usize, v: u64, what: &[u8]) -> usize {
-    let a = print::number(text, n, v);
-    print::words(text, a, what)
-}
-
-fn lines_counted(text: &mut [u8], lines: u64, t: Tally) -> usize {
-    let a = count(text, 0, lines, b" lines, ");
-    let b = count(text, a, t.calls, b" calls, ");
-    count(text, b, t.bad, b" bad lines; ")
-}
-
-fn blocks_counted(text: &mut [u8], n: usize, t: Tally) -> usize {
-    let a = print::words(text, n, b"blocks: ");
-    let b = count(text, a, t.done, b" done, ");
-    let c = count(text, b, t.waiting, b" waiting, ");
-    count(text, c, t.refused, b" refused; ")
-}
-
 // How many lines and calls there were, and what became of them.
 pub fn summary(text: &mut [u8], lines: u64, t: Tally) {
-    let a = lines_counted(text, lines, t);
-    let b = blocks_counted(text, a, t);
-    let c = print::words(text, b, b"other calls refused: ");
-    let d = print::number(text, c, t.others);
-    end_line(text, d);
+    let counts = [
+        lines,
+        t.calls,
+        t.bad,
+        t.done,
+        t.waiting,
+        t.refused,
+        t.others,
+    ];
+    let table =
+        b" lines, \n calls, \n bad lines; blocks: \n done, \n waiting, \n refused; other calls: \n refused\n";
+    let mut n: usize = 0;
+    for k in 0..7 {
+        n = print::number(text, n, counts[k]);
+        n = entry(text, n, table, k);
+    }
+    end_line(text, n);
 }

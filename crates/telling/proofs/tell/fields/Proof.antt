@@ -3,8 +3,8 @@ use mathlib.Core.Path.{sym}
 use native.Mathlib.Omega.{arith}
 use lib.Seq.{length-take-le}
 use borrow.Author.Needs.{needs}
-use Rattle.gateway.proofs.tell.fields.Statement.{statement}
-use Rattle.gateway.proofs.tell.fields.Tie as tie
+use Rattle.telling.proofs.tell.fields.Statement.{statement}
+use Rattle.telling.proofs.tell.fields.Tie as tie
 
 returns : tie.Need-returns
 returns c = search needs

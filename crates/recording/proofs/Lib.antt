@@ -1,2 +1,0 @@
--- The laws of `recording`, for its functions' proofs.
-pub mod Digits

@@ -1,2 +1,0 @@
--- What the words of a recording say.
-pub mod Numbers

@@ -1,0 +1,2 @@
+-- The laws of `words`, for its functions' proofs.
+pub mod Digits
