@@ -14,7 +14,7 @@ use Rattle.memory.proofs.Order.{either, not-both, need-true, need-false}
 use Rattle.integers.specs.Answers.{Answer, done}
 use Rattle.marks.specs.Marks.{cleared}
 use Rattle.fields.specs.Form.{Field, listForm}
-use Rattle.blocks.specs.Reading.{BlockRead, block, readBlock, blockAnswer}
+use Rattle.blocks.specs.Reading.{BlockRead, readBlock}
 use Rattle.blocks.specs.Meaning.{BlockMeaning, list}
 use Rattle.model.specs.Parts.{Part, nontrailer, trailer, partOf, Marks, inTurn}
 use Rattle.model.specs.Outcome.{outputBytes}
@@ -26,8 +26,8 @@ use Rattle.state_laws.proofs.DecoderLaws.{decoder-laws}
 use Rattle.parts.specs.Turn.{partTurn}
 use Rattle.reply.specs.Result.{Result, refused, stepped}
 use Rattle.decoder.specs.Calls.{blockCall}
-use Rattle.decoder_fields.specs.Measure.{Stands, ReadsWell, meaningOf}
-use Rattle.decoder_fields.proofs.Entries.{changes}
+use Rattle.decoder_survey.specs.Measure.{Stands, ReadsWell, meaningOf}
+use Rattle.decoder_survey.proofs.Entries.{changes}
 
 -- ---- the part in turn, and where its kind's marks stand
 
@@ -67,11 +67,6 @@ module _ (marks : Marks) (stream part : ℕ) where
 pub leaves : {call R : Result} {answer : Answer} {memory output : List ℕ} → call ≡ R → answer ≡ R .answer → memory ≡ R .memory → output ≡ R .output
     → (answer ≡ call .answer) × ((memory ≡ call .memory) × (output ≡ call .output))
 leaves e a m o = (a ∙ sym (ap (λ (r : Result). r .answer) e), (m ∙ sym (ap (λ (r : Result). r .memory) e), o ∙ sym (ap (λ (r : Result). r .output) e)))
-
--- an answer that is not 0 is that of a block refused
-pub read-refused : (b : BlockRead) → (blockAnswer b .number ≡ 0 → ⊥) → b ≡ BlockRead.refused (blockAnswer b .number)
-read-refused (block rs) h = absurd (h refl)
-read-refused (BlockRead.refused number) h = refl
 
 module _ (m : List ℕ) (stream part : ℕ) (s out : List ℕ) where
   pub no-state : formsDecoder m ≡ false → blockCall m stream part s out ≡ refused m out 17

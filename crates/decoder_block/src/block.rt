@@ -6,11 +6,10 @@ ghost use Rattle.state.specs.DecoderState.{decoderOf};
 ghost use Rattle.reply.specs.Reply.{answerOf};
 ghost use Rattle.parts.specs.Turn.{partTurn};
 ghost use Rattle.decoder.specs.Calls.{blockCall};
-ghost use Rattle.decoder_fields.specs.Measure.{Stands, ReadsWell};
-use blocks::read::check_block;
-use decoder_fields::measure::Measured;
-use decoder_fields::measure::measure;
+ghost use Rattle.decoder_survey.specs.Measure.{Stands};
 use decoder_fields::write::write_fields;
+use decoder_survey::measure::Survey;
+use decoder_survey::measure::survey_block;
 use integers::answer::NO_ROOM;
 use integers::answer::NO_STATE;
 use integers::answer::OUT_OF_TURN;
@@ -21,28 +20,26 @@ use parts::in_turn;
 use parts::marks_place;
 use reply::Reply;
 use state::decoder::forms_decoder;
-use statics::table::static_text;
 
-// A block in turn that reads well: 1, 12, or its fields, and its part is finished.
+// A block in turn: 13 and the refusals of reading, 1, 12, or its fields, and its part is finished.
 fn give(m: &mut [u8], stream: u64, part: u64, s: &[u8], out: &mut [u8]) -> Reply
     requires { ⌜ Stands (now m) × (partTurn (decoderOf (now m) .finished) stream (partOf part) ≡ true) ⌝ }
-    requires { ⌜ ReadsWell (now s) ⌝ }
     ensures { λ r. ⌜ answerOf r ≡ blockCall (now (m .entry)) stream part (now (s .entry)) (now (out .entry)) .answer ⌝ }
     ensures { λ _. ⌜ now (m .exit) ≡ blockCall (now (m .entry)) stream part (now (s .entry)) (now (out .entry)) .memory ⌝ }
     ensures { λ _. ⌜ now (out .exit) ≡ blockCall (now (m .entry)) stream part (now (s .entry)) (now (out .entry)) .output ⌝ }
 {
-    let text = static_text();
-    match measure(&text, m, s) {
-        Measured::Waits(index) => Reply {
+    match survey_block(m, s) {
+        Survey::Refused(number) => Reply::refused(number),
+        Survey::Waits(index) => Reply {
             number: WAITS,
             first: index.value,
             second: 0,
         },
-        Measured::Bytes(n) => {
+        Survey::Bytes(n) => {
             if out.len() < n {
                 return Reply::refused(NO_ROOM);
             }
-            write_fields(&text, m, s, out);
+            write_fields(m, s, out);
             clear(
                 m,
                 marks_place(part),
@@ -65,10 +62,6 @@ pub fn block(m: &mut [u8], stream: u64, part: u64, s: &[u8], out: &mut [u8]) -> 
     }
     if !in_turn(m, stream, part) {
         return Reply::refused(OUT_OF_TURN);
-    }
-    let checked = check_block(s);
-    if checked != 0 {
-        return Reply::refused(checked);
     }
     give(m, stream, part, s, out)
 }

@@ -1,3 +1,2 @@
-// The fields of a header block: measured, and written in the host's list form.
-pub mod measure;
+// The second pass over a header block: its fields written in the host's list form.
 pub mod write;

@@ -1,6 +1,6 @@
 // The fields of a block written in the host's list form.
 ghost use mathlib.Core.Path.{_≡_};
-ghost use Prim.Native.Nat.{ℕ, _+_, _<_, _≤_};
+ghost use Prim.Native.Nat.{ℕ, _+_, _-_, _<_, _≤_};
 ghost use lib.ListN.{length};
 ghost use Rattle.memory.specs.Bytes.{overlay};
 ghost use Rattle.statics.specs.Table.{staticText};
@@ -8,17 +8,29 @@ ghost use Rattle.wire.specs.Text.{InText, stringLength, stringBytes};
 ghost use Rattle.fields.specs.Form.{textForm, fieldForm};
 ghost use Rattle.blocks.specs.Representation.{Representation};
 ghost use Rattle.blocks.specs.Reading.{InBytes};
-ghost use Rattle.decoder_fields.specs.Measure.{Stands, fieldOf, fieldAt, namedAt, literalAt, IsField, fieldBytes, ReadsWell, meaningOf, IsList, listBytes};
+ghost use Rattle.state.specs.Layout.{countOf};
+ghost use Rattle.state.specs.Rows.{nameAt, valueAt};
+ghost use Rattle.search.specs.Search.{Ordered};
+ghost use Rattle.decoder_survey.specs.Measure.{Stands, fieldOf, fieldAt, namedAt, literalAt, IsField, fieldBytes, ReadsWell, meaningOf, IsList, listBytes};
+ghost use Rattle.decoder_survey.specs.Passes.{rowField, ShortLiteral, shortForm, meaningFrom, Unwritten};
 use blocks::read::RepresentationPlace;
 use blocks::read::RepresentationRead;
-use blocks::read::read_representation;
+use decoder_survey::entry::place_of;
+use decoder_survey::entry::row_name;
+use decoder_survey::entry::row_of;
+use decoder_survey::entry::row_value;
+use decoder_survey::short::read_next;
+use decoder_survey::short::short_literal;
 use fields::write::write_field;
 use fields::write::write_length;
 use fields::write::write_text;
 use integers::number::TableIndex;
-use search::place::locate;
+use memory::copy::copy;
+use search::find::Found;
 use search::place::name_at;
 use search::place::value_at;
+use statics::table::LAST;
+use statics::table::static_text;
 use wire::name::NamePlace;
 use wire::text::StringPlace;
 
@@ -47,7 +59,7 @@ fn write_indexed<'a>(
     ensures { λ r. ⌜ r ≡ at + length (fieldBytes (fieldOf (now (m .entry)) (Representation.indexed (index .value)))) ⌝ }
     ensures { λ _. ⌜ now (out .exit) ≡ overlay (now (out .entry)) at (fieldBytes (fieldOf (now (m .entry)) (Representation.indexed (index .value)))) ⌝ }
 {
-    let place = locate(m, index);
+    let place = place_of(m, index);
     let name = name_at(text, m, place);
     let value = value_at(text, m, place);
     write_field(0, name, value, out, at)
@@ -71,7 +83,7 @@ fn write_named<'a>(
     ensures { λ r. ⌜ r ≡ at + length (fieldBytes (namedAt (now (m .entry)) (now (s .entry)) flag index value)) ⌝ }
     ensures { λ _. ⌜ now (out .exit) ≡ overlay (now (out .entry)) at (fieldBytes (namedAt (now (m .entry)) (now (s .entry)) flag index value)) ⌝ }
 {
-    let place = locate(m, index);
+    let place = place_of(m, index);
     out[at] = flag;
     let name = name_at(text, m, place);
     let next = write_text(name, out, at + 1);
@@ -122,9 +134,71 @@ fn write_meant<'a>(
     }
 }
 
-// All fields of a block that reads well and waits for nothing, from the front of the output.
-pub fn write_fields<'a>(text: &'a [u8], m: &'a [u8], s: &[u8], out: &mut [u8])
-    requires { ⌜ (now text ≡ staticText) × Stands (now m) ⌝ }
+// All fields from a place of the block on, whatever their form. Only here the static text is made, once.
+fn write_rest(m: &[u8], s: &[u8], from: usize, out: &mut [u8], start: usize)
+    requires { ⌜ Stands (now m) ⌝ }
+    requires { ⌜ Unwritten (now m) (now s) (now out) from start ⌝ }
+    ensures { λ _. ⌜ now (out .exit) ≡ overlay (now (out .entry)) start (listBytes (meaningFrom (now (m .entry)) (now (s .entry)) from)) ⌝ }
+{
+    let text = static_text();
+    let mut to: usize = start;
+    let mut at: usize = from;
+    while at < s.len() {
+        let r = read_next(s, at);
+        let RepresentationRead::Found(place, next) = r else {
+            return;
+        };
+        to = write_meant(&text, m, s, place, out, to);
+        at = next;
+    }
+}
+
+// A short literal at the place `at`, up to the place `next`: from its second byte on it stands in the block as in the list.
+fn write_short(s: &[u8], at: usize, next: usize, out: &mut [u8], to: usize) -> usize
+    requires { ⌜ ShortLiteral (now s) at next ⌝ }
+    requires { ⌜ to + (next - at) ≤ length (now out) ⌝ }
+    ensures { λ r. ⌜ r ≡ to + length (shortForm (now (s .entry)) at next) ⌝ }
+    ensures { λ _. ⌜ now (out .exit) ≡ overlay (now (out .entry)) to (shortForm (now (s .entry)) at next) ⌝ }
+{
+    out[to] = s[at] / 64;
+    let from = at + 1;
+    copy(&s[from..next], out, to + 1)
+}
+
+// The field of row `i`.
+fn write_row(m: &[u8], i: usize, out: &mut [u8], to: usize) -> usize
+    requires { ⌜ (i < countOf (now m)) × Ordered (now m) ⌝ }
+    requires { ⌜ (length (nameAt (now m) i) ≤ 255) × (length (valueAt (now m) i) ≤ 2047) ⌝ }
+    requires { ⌜ to + length (fieldForm (rowField (now m) i)) ≤ length (now out) ⌝ }
+    ensures { λ r. ⌜ r ≡ to + length (fieldForm (rowField (now (m .entry)) i)) ⌝ }
+    ensures { λ _. ⌜ now (out .exit) ≡ overlay (now (out .entry)) to (fieldForm (rowField (now (m .entry)) i)) ⌝ }
+{
+    let name = row_name(m, i);
+    let value = row_value(m, i);
+    out[to] = 0;
+    let next = write_text(name, out, to + 1);
+    write_text(value, out, next)
+}
+
+// A field of the header table by its index. A row is found, since a field is meant.
+fn write_dynamic(m: &[u8], index: TableIndex, out: &mut [u8], to: usize) -> usize
+    requires { ⌜ Stands (now m) × (61 < index .value) ⌝ }
+    requires { ⌜ IsField (fieldOf (now m) (Representation.indexed (index .value))) ⌝ }
+    requires { ⌜ to + length (fieldBytes (fieldOf (now m) (Representation.indexed (index .value)))) ≤ length (now out) ⌝ }
+    ensures { λ r. ⌜ r ≡ to + length (fieldBytes (fieldOf (now (m .entry)) (Representation.indexed (index .value)))) ⌝ }
+    ensures { λ _. ⌜ now (out .exit) ≡ overlay (now (out .entry)) to (fieldBytes (fieldOf (now (m .entry)) (Representation.indexed (index .value)))) ⌝ }
+{
+    let f = row_of(m, index);
+    let Found::At(i) = f else {
+        return to;
+    };
+    write_row(m, i, out, to)
+}
+
+// All fields of a block that reads well and waits for nothing, from the front of the output. The first that is neither a short literal nor a short
+// index of the header table hands over to `write_rest`.
+pub fn write_fields(m: &[u8], s: &[u8], out: &mut [u8])
+    requires { ⌜ Stands (now m) ⌝ }
     requires { ⌜ ReadsWell (now s) ⌝ }
     requires { ⌜ IsList (meaningOf (now m) (now s)) ⌝ }
     requires { ⌜ length (listBytes (meaningOf (now m) (now s))) ≤ length (now out) ⌝ }
@@ -133,11 +207,22 @@ pub fn write_fields<'a>(text: &'a [u8], m: &'a [u8], s: &[u8], out: &mut [u8])
     let mut to: usize = 0;
     let mut at: usize = 0;
     while at < s.len() {
-        let r = read_representation(s, at);
-        let RepresentationRead::Found(place, next) = r else {
-            return;
-        };
-        to = write_meant(text, m, s, place, out, to);
-        at = next;
+        if s[at] < 128 {
+            let next = short_literal(s, at);
+            if next == 0 {
+                write_rest(m, s, at, out, to);
+                return;
+            }
+            to = write_short(s, at, next, out, to);
+            at = next;
+        } else {
+            let index = (s[at] as u32) - 128;
+            if index <= LAST || index == 127 {
+                write_rest(m, s, at, out, to);
+                return;
+            }
+            to = write_dynamic(m, TableIndex { value: index }, out, to);
+            at += 1;
+        }
     }
 }

@@ -1,11 +1,11 @@
--- The references of a block entered one after another: memory is the state with the references of what was read so far over the old memory. Each is one
+-- The references of a block entered one after another: memory is the state with the references of what was written so far over the old memory. Each is one
 -- change of that state, by the law of changes, and one state over another leaves the second.
 use Prim.Native.Nat.{ℕ, suc, _≤_, _<_}
 use mathlib.Core.Path.{_≡_, refl, sym, ap, ap₂, subst, _∙_}
 use native.Mathlib.Omega.{arith}
 use mathlib.Core.Bool.{true}
 use mathlib.Core.Option.{Option, some, Option·map}
-use mathlib.Core.List.{List, [], _∷_, _++_, map, map-map, map-id, append-nil, List·Memᴰ, List·Memᴰ·head, Memᴰ·append-left, Memᴰ·append-right}
+use mathlib.Core.List.{List, [], _∷_, _++_, map, map-map, map-id, List·Memᴰ, List·Memᴰ·head}
 use lib.Dec.{ltb}
 use lib.ListN.{length}
 use borrow.Author.Tests.{lt-ltb, le-ltb}
@@ -13,12 +13,10 @@ use Rattle.memory.specs.Choice.{pick}
 use Rattle.memory.specs.Bytes.{Small}
 use Rattle.memory.proofs.Order.{split, pick-true, pick-false}
 use Rattle.marks.specs.Marks.{cleared}
-use Rattle.wire.specs.declared.name.NamePlace.the-variants.{Index, Text}
-use Rattle.blocks.specs.Representation.{Representation}
-use Rattle.blocks.specs.Reading.{representationOf}
+use Rattle.wire.specs.Name.{indexed as by-index, literal as by-bytes}
+use Rattle.fields.specs.Form.{Field}
+use Rattle.blocks.specs.Representation.{Representation, indexed, literal}
 use Rattle.blocks.specs.Meaning.{references, blockReferences}
-use Rattle.blocks.specs.declared.read.RepresentationPlace.{RepresentationPlace}
-use Rattle.blocks.specs.declared.read.RepresentationPlace.the-variants.{Indexed, Literal}
 use Rattle.model.specs.Table.{look}
 use Rattle.model.specs.Parts.{Part, nontrailer, trailer, mark, streams}
 use Rattle.model.specs.Decoder.{isSome}
@@ -41,7 +39,10 @@ use Rattle.changes.specs.EncoderChanges.{referredAt}
 use Rattle.changes.proofs.Finding.{FoundAt, found-here, found-next}
 use Rattle.changes.proofs.FrontFits.{marks-fit}
 use Rattle.changes.proofs.EncoderUpdates.{writes, refers}
-use Rattle.encoder_fields.specs.Refer.{partAt, AllHeld, entered, enteredOne, enteredAt, InTable}
+use Rattle.encoder_fields.specs.Measure.{chosen}
+use Rattle.encoder_fields.specs.Refer.{partAt, AllHeld, entered, enteredOne, enteredBy, enteredChoice, InTable}
+use Rattle.encoder_fields.specs.declared.choice.Choice.{Choice}
+use Rattle.encoder_fields.specs.declared.choice.Choice.the-variants.{Indexed, Named, Literal}
 use Rattle.encoder_block.proofs.Twice.{overlay-twice}
 use Rattle.encoder_block.proofs.Mentions.{refer-row, referred-at-index, refer-nothing, refer-text, refer-other, refer-one}
 
@@ -59,17 +60,6 @@ found-at {X} index i (y ∷ l) x h =
 map-same : (f g : Sent → Sent) (P : Sent → Type 0) → ((e : Sent) → P e → f e ≡ g e) → (l : List Sent) → Each P l → map f l ≡ map g l
 map-same f g P h [] each = refl
 map-same f g P h (e ∷ l) each = ap₂ (λ (d : Sent) (r : List Sent). d ∷ r) (h e (each .0)) (map-same f g P h l (each .1))
-
--- ---- what a block names, apart
-
-module _ (l : List Sent) (r : Representation) (rs : List Representation) (held : AllHeld l (r ∷ rs)) where
-  pub held-first : AllHeld l (r ∷ [])
-  unfolding blockReferences
-  held-first i k = held i (Memᴰ·append-left (blockReferences rs) (subst (List·Memᴰ i) (append-nil (references r)) k))
-
-  pub held-rest : AllHeld l rs
-  unfolding blockReferences
-  held-rest i k = held i (Memᴰ·append-right (references r) k)
 
 -- ---- states with references entered
 
@@ -151,7 +141,12 @@ module _ (E : Encoder) (m : List ℕ) (H : HoldsEncoder E m) (s : ℕ) (p : Part
       ∙ overlay-twice now next m (marks-fit (encoderFront now) (encoder-fine now (fits rs)) (mark s p (E .written))) (fits rs .forms .order) (λ e. e)
       (λ e. refl) (ap (map rowOfSent) (map-id (now .entries))) (sym (map-id (now .entries)))
 
--- ---- one index, by its kind and by the part
+-- ---- one choice, and one index, by its kind and by the part
+
+pub entered-choice : (m : List ℕ) (stream part : ℕ) (f : Field) (choice : Choice) → enteredChoice m stream part choice ≡ enteredBy m stream part (chosen f choice)
+entered-choice m stream part f (Indexed i) = refl
+entered-choice m stream part f (Named i) = refl
+entered-choice m stream part f Literal = refl
 
 module _ (m : List ℕ) (stream part index : ℕ) where
   pub entered-static : index < 62 → m ≡ enteredOne m stream part index
@@ -179,6 +174,9 @@ module _ (m : List ℕ) (small : Small m) (forms : formsEncoder m ≡ true) (str
   H : HoldsEncoder E m
   H = forms-holds-encoder m small forms
 
+  pub fits-entered : (rs : List Representation) → FitsEncoder (withSent E (map (refer stream (partAt part) rs) (E .entries)))
+  fits-entered rs = fits E m H stream (partAt part) below rs
+
   pub entered-none : entered m stream part [] ≡ m
   unfolding entered
   entered-none = after-none E m H stream (partAt part) below
@@ -187,15 +185,12 @@ module _ (m : List ℕ) (small : Small m) (forms : formsEncoder m ≡ true) (str
   unfolding entered
   entered-length rs = length-overlayEncoder (state E m H stream (partAt part) below rs) m
 
-  module _ (ps : List Representation) (b : List ℕ) where
-    pub entered-more : (place : RepresentationPlace) → AllHeld (E .entries) (representationOf b place ∷ [])
-        → enteredAt (entered m stream part ps) stream part place ≡ entered m stream part (ps ++ (representationOf b place ∷ []))
-    unfolding entered enteredOne
-    entered-more (Indexed i) held = after-index E m H stream (partAt part) below ps (representationOf b (Indexed i)) (i .value) refl held
-    entered-more (Literal flag (Index i) value) held =
-        after-index E m H stream (partAt part) below ps (representationOf b (Literal flag (Index i) value)) (i .value) refl held
-    entered-more (Literal flag (Text name) value) held =
-        after-text E m H stream (partAt part) below ps (representationOf b (Literal flag (Text name) value)) refl
+  pub entered-more : (ps : List Representation) (r : Representation) → AllHeld (E .entries) (r ∷ [])
+      → enteredBy (entered m stream part ps) stream part r ≡ entered m stream part (ps ++ (r ∷ []))
+  unfolding entered enteredOne
+  entered-more ps (indexed i) held = after-index E m H stream (partAt part) below ps (indexed i) i refl held
+  entered-more ps (literal flag (by-index i) value) held = after-index E m H stream (partAt part) below ps (literal flag (by-index i) value) i refl held
+  entered-more ps (literal flag (by-bytes name) value) held = after-text E m H stream (partAt part) below ps (literal flag (by-bytes name) value) refl
 
   -- an index that is static or held has at most 189
   low : (i : ℕ) → (62 ≤ i → isSome (look sentIndex i (E .entries)) ≡ true) → i ≤ 189
@@ -204,11 +199,11 @@ module _ (m : List ℕ) (small : Small m) (forms : formsEncoder m ≡ true) (str
       (λ h. let e = some-found (look sentIndex i (E .entries)) (held h) in
       omega (arith, H .fits .forms .entries i (e .0) (e .1) .high, look-index sentIndex i (E .entries) (e .0) (e .1)))
 
-  pub held-low : (b : List ℕ) (place : RepresentationPlace) → AllHeld (E .entries) (representationOf b place ∷ []) → InTable place
+  pub held-low : (f : Field) (choice : Choice) → AllHeld (E .entries) (chosen f choice ∷ []) → InTable choice
   unfolding blockReferences
-  held-low b (Indexed i) held = low (i .value) (held (i .value) (List·Memᴰ·head refl))
-  held-low b (Literal flag (Index i) value) held = low (i .value) (held (i .value) (List·Memᴰ·head refl))
-  held-low b (Literal flag (Text name) value) held = tt
+  held-low f (Indexed i) held = low (i .value) (held (i .value) (List·Memᴰ·head refl))
+  held-low f (Named i) held = low (i .value) (held (i .value) (List·Memᴰ·head refl))
+  held-low f Literal held = tt
 
   pub entered-written : (rs : List Representation)
       → cleared (entered m stream part rs) (marksPlace (partAt part)) stream

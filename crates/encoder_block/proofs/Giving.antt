@@ -1,46 +1,43 @@
 -- The block call's equations, one for each way through it. By the tests along that way; a refusal leaves memory and output, as a state that memory forms is
 -- over it already.
 use Prim.Native.Nat.{ℕ, _+_, _*_, _≤_, _<_}
-use mathlib.Core.Path.{_≡_, refl, sym, ap, ap₂, subst, _∙_}
+use mathlib.Core.Path.{_≡_, refl, sym, ap, ap₂, _∙_}
 use native.Mathlib.Omega.{arith}
 use mathlib.Core.Bool.{true, false}
 use mathlib.Core.Option.{Option, none, some}
 use mathlib.Core.List.{List, map}
 use lib.Dec.{ltb, leb, eqb}
-use lib.ListN.{length, take}
+use lib.ListN.{length}
 use borrow.Author.Tests.{ltb-true, lt-ltb, le-leb, lt-leb}
 use Rattle.memory.specs.Choice.{pick}
 use Rattle.memory.specs.Bytes.{Small, overlay}
 use Rattle.memory.proofs.Order.{need-true, need-false}
-use Rattle.memory.proofs.Places.{part-overlay}
 use Rattle.integers.specs.Answers.{Answer, done, refusal}
 use Rattle.marks.specs.Marks.{cleared}
-use Rattle.fields.specs.Form.{Field, AllFine as AllFineFields}
+use Rattle.fields.specs.Form.{Field}
 use Rattle.fields.specs.Reading.{ListRead, list, readList, listAnswer}
 use Rattle.fields.specs.Reading as reading
-use Rattle.fields.proofs.Lists.{list-forth}
-use Rattle.blocks.specs.Representation.{Representation, AllFine, blockWire}
-use Rattle.blocks.specs.Reading.{BlockRead, block, readBlock}
-use Rattle.blocks.proofs.Back.{block-back}
+use Rattle.blocks.specs.Representation.{Representation, blockWire}
 use Rattle.model.specs.Parts.{Part, nontrailer, trailer, partOf, Marks, inTurn, streams}
 use Rattle.model.specs.Outcome.{Outcome, refuse, outputBytes}
-use Rattle.model.specs.Encoder.{Encoder, FormsEncoder, choose, writePart, encodePart, encodeBlock}
+use Rattle.model.specs.Encoder.{Encoder, choose, writePart, encodePart, encodeBlock}
 use Rattle.model.proofs.Tables.{nope, pick-eq, pick-yes, pick-no}
 use Rattle.model.proofs.Marks.{and-both}
 use Rattle.state.specs.Layout.{marksPlace}
 use Rattle.state.specs.Front.{marksOf}
 use Rattle.state.specs.EncoderState.{encoderOf, overlayEncoder}
 use Rattle.state.specs.Forms.{formsEncoder}
-use Rattle.state_laws.proofs.EncoderLaws.{encoder-laws}
 use Rattle.state_laws.proofs.EncoderForms.{forms-holds-encoder}
 use Rattle.state_laws.proofs.EncoderOverlay.{overlay-self-encoder}
 use Rattle.parts.specs.Turn.{partTurn}
 use Rattle.reply.specs.Result.{Result, refused, stepped}
 use Rattle.encoder.specs.Calls.{onList, blockCall}
-use Rattle.encoder_fields.specs.Measure.{fieldsIn, representationsOf}
-use Rattle.encoder_fields.specs.Refer.{partAt, AllHeld, entered, blockOf}
-use Rattle.encoder_fields.proofs.Chosen.{all-fine, all-held}
+use Rattle.encoder_fields.specs.Measure.{fieldsIn, representationsOf, roomAnswer}
+use Rattle.encoder_fields.specs.Refer.{partAt, entered}
+use Rattle.encoder_fields.proofs.Fields.{capped-low}
+use Rattle.encoder_fields.proofs.Bound.{room-ways}
 use Rattle.encoder_block.proofs.Entering.{entered-length, entered-written}
+use Rattle.encoder_block.proofs.Writing.{Passed}
 
 -- ---- a result, part by part, as a function's contract has it
 
@@ -54,6 +51,11 @@ tells r x e answer memory output a m o =
 
 pub tells-refused : (r : Result) (m out : List ℕ) (number : ℕ) → r ≡ refused m out number → (answer : Answer) → answer ≡ refusal number → Tells r answer m out
 tells-refused r m out number e answer a = tells r (refused m out number) e answer m out a refl refl
+
+-- memory and output after a step that leaves both
+pub tells-kept : (r : Result) (m out : List ℕ) (number : ℕ) → r ≡ refused m out number → (answer : Answer) → answer ≡ refusal number
+    → (m′ out′ : List ℕ) → m′ ≡ m → out′ ≡ out → Tells r answer m′ out′
+tells-kept r m out number e answer a m′ out′ em eo = tells r (refused m out number) e answer m′ out′ a em eo
 
 -- ---- a part in turn
 
@@ -127,18 +129,10 @@ module _ (m : List ℕ) (stream part : ℕ) (s out : List ℕ) where
 
 pub record Ready (m : List ℕ) (stream part : ℕ) (s : List ℕ) : Type 0 where
   pub small : Small m
-  pub bytes : Small s
   pub forms : formsEncoder m ≡ true
   pub turn : partTurn (encoderOf m .written) stream (partOf part) ≡ true
   pub fields : List Field
   pub read : readList s ≡ list fields
-
--- the output with the block in it
-pub record Written (m s out : List ℕ) (n : ℕ) (new : List ℕ) : Type 0 where
-  pub short : n ≤ 16384
-  pub room : n ≤ length out
-  pub is : n ≡ length (blockWire (representationsOf m s))
-  pub over : new ≡ overlay out 0 (blockWire (representationsOf m s))
 
 module _ {m : List ℕ} {stream part : ℕ} {s : List ℕ} (R : Ready m stream part s) where
   abbrev E : Encoder
@@ -181,14 +175,31 @@ module _ {m : List ℕ} {stream part : ℕ} {s : List ℕ} (R : Ready m stream p
         ∙ ap (stepped overlayEncoder m out) e
         ∙ ap (λ (l : List ℕ). refused l out number) (overlay-self-encoder E m (forms-holds-encoder m (R .small) (R .forms)))
 
-    pub too-long : 16384 < size → blockCall m stream part s out ≡ refused m out 13
+    too-long : 16384 < size → blockCall m stream part s out ≡ refused m out 13
     unfolding writePart
     too-long h = refuses 13 (need-false (leb size 16384) _ _ (lt-leb size 16384 h))
 
-    pub no-room : size ≤ 16384 → length out < size → blockCall m stream part s out ≡ refused m out 12
+    no-room : size ≤ 16384 → length out < size → blockCall m stream part s out ≡ refused m out 12
     unfolding writePart
     no-room short h =
         refuses 12 (need-true (leb size 16384) _ _ (le-leb size 16384 short) ∙ need-false (leb size (length out)) _ _ (lt-leb size (length out) h))
+
+    -- by the room's answer: it refuses, or there is room
+    pub not-fitting : (number : ℕ) → number ≡ roomAnswer size (length out) → (number ≡ 0 → ⊥) → blockCall m stream part s out ≡ refused m out number
+    not-fitting number e n =
+        room-ways size (length out) (λ (k : ℕ). number ≡ k → blockCall m stream part s out ≡ refused m out number)
+        (λ short room d. absurd (n d))
+        (λ long d. too-long long ∙ ap (refused m out) (sym d))
+        (λ short lacks d. no-room short lacks ∙ ap (refused m out) (sym d))
+        e
+
+    pub fitting : (number : ℕ) → number ≡ roomAnswer size (length out) → number ≡ 0 → (size ≤ 16384) × (size ≤ length out)
+    fitting number e z =
+        room-ways size (length out) (λ (k : ℕ). number ≡ k → (size ≤ 16384) × (size ≤ length out))
+        (λ short room d. (short, room))
+        (λ long d. absurd (omega arith))
+        (λ short lacks d. absurd (omega arith))
+        e
 
     given : size ≤ 16384 → size ≤ length out → blockCall m stream part s out ≡ record {
       answer = done size 0;
@@ -204,40 +215,28 @@ module _ {m : List ℕ} {stream part : ℕ} {s : List ℕ} (R : Ready m stream p
         (sym (entered-written m (R .small) (R .forms) stream (its-turn .below) part rs)
         ∙ ap (λ (at : ℕ). cleared (entered m stream part rs) at stream) (its-turn .place))
 
-    -- the block written: read again it is the block, and all that it names is static or held
-    module _ (n : ℕ) (new : List ℕ) (W : Written m s out n new) where
-      front : take n new ≡ blockWire rs
-      front = ap₂ take (W .is) (W .over) ∙ part-overlay out 0 (blockWire rs) (omega (arith, W .is, W .room))
+    -- the same of memory and output after a step that leaves both
+    module _ (m′ out′ : List ℕ) (em : m′ ≡ m) (eo : out′ ≡ out) where
+      pub still-forms : formsEncoder m′ ≡ true
+      still-forms = ap formsEncoder em ∙ R .forms
 
-      pub front-length : n ≡ length (take n new)
-      front-length = W .is ∙ ap length (sym front)
+      pub still-room : (size ≤ 16384) × (size ≤ length out)
+          → (length (blockWire (representationsOf m′ s)) ≤ 16384) × (length (blockWire (representationsOf m′ s)) ≤ length out′)
+      still-room h = rw (em, eo) h
 
-      forms-state : FormsEncoder E
-      forms-state = encoder-laws .fits m (R .small) (R .forms) .forms
+      pub still-passed : size ≤ 16384 → (n : ℕ) (refers new : List ℕ) → Passed m′ stream part s out′ true n refers new
+          → (n ≡ size) × ((refers ≡ entered m stream part rs) × (new ≡ overlay out 0 (blockWire rs)))
+      still-passed short n refers new p =
+          let q : Passed m stream part s out true n refers new = rw (em, eo) at p in
+          (q .0 ∙ sym (capped-low size short), q .1)
 
-      fine-fields : AllFineFields (R .fields)
-      fine-fields = list-forth s (R .bytes) (R .fields) (R .read) .1
+    -- the call's result, by what its steps leave
+    module _ (short : size ≤ 16384) (room : size ≤ length out) (refers : List ℕ) (e : refers ≡ entered m stream part rs) where
+      pub refers-length : length refers ≡ length m
+      refers-length = ap length e ∙ entered-length m (R .small) (R .forms) stream (its-turn .below) part rs
 
-      chosen-all : map (choose (E .entries)) (R .fields) ≡ rs
-      chosen-all = ap (λ (r : ListRead). map (choose (E .entries)) (fieldsIn r)) (sym (R .read))
-
-      pub front-reads : readBlock (take n new) ≡ block rs
-      front-reads =
-          ap readBlock front
-          ∙ block-back rs (subst AllFine chosen-all (all-fine E forms-state (R .fields) fine-fields)) (omega (arith, W .is, W .short))
-
-      pub front-held : AllHeld (E .entries) (blockOf (readBlock (take n new)))
-      front-held =
-          subst (AllHeld (E .entries)) (chosen-all ∙ ap blockOf (sym front-reads)) (all-held E forms-state (R .fields) fine-fields)
-
-      module _ (refers : List ℕ) (e : refers ≡ entered m stream part (blockOf (readBlock (take n new)))) where
-        pub refers-length : length refers ≡ length m
-        refers-length = ap length e ∙ entered-length m (R .small) (R .forms) stream (its-turn .below) part _
-
-        -- the call's result, by what its steps leave
-        pub gives : (answer : Answer) (marked : List ℕ) (place : ℕ) → answer ≡ done n 0 → place ≡ 64 + 512 * part → marked ≡ cleared refers place stream
-            → Tells (blockCall m stream part s out) answer marked new
-        gives answer marked place a p c =
-            tells _ _ (given (omega (arith, W .is, W .short)) (omega (arith, W .is, W .room))) answer marked new (a ∙ ap (λ (k : ℕ). done k 0) (W .is))
-            (c ∙ ap₂ (λ (l : List ℕ) (at : ℕ). cleared l at stream) (e ∙ ap (λ (r : BlockRead). entered m stream part (blockOf r)) front-reads) p)
-            (W .over)
+      pub gives : (n : ℕ) → n ≡ size → (answer : Answer) (marked new : List ℕ) (place : ℕ) → answer ≡ done n 0 → place ≡ 64 + 512 * part
+          → marked ≡ cleared refers place stream → new ≡ overlay out 0 (blockWire rs) → Tells (blockCall m stream part s out) answer marked new
+      gives n is answer marked new place a p c o =
+          tells _ _ (given short room) answer marked new (a ∙ ap (λ (k : ℕ). done k 0) is)
+          (c ∙ ap₂ (λ (l : List ℕ) (at : ℕ). cleared l at stream) e p) o

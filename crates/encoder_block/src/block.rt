@@ -8,22 +8,17 @@ ghost use Rattle.parts.specs.Turn.{partTurn};
 ghost use Rattle.reply.specs.Reply.{answerOf};
 ghost use Rattle.encoder.specs.Calls.{blockCall};
 ghost use Rattle.encoder_fields.specs.Measure.{ReadsWell};
-use crate::refer::refer_block;
-use blocks::read::BLOCK_LIMIT;
-use encoder_fields::measure::measure;
-use encoder_fields::write::write_block;
+use crate::write::room_answer;
+use crate::write::write_list;
 use fields::read::check_list;
-use integers::answer::NO_ROOM;
 use integers::answer::NO_STATE;
 use integers::answer::OUT_OF_TURN;
-use integers::answer::TOO_LONG;
 use integers::number::StreamNumber;
 use marks::mark::clear;
 use parts::in_turn;
 use parts::marks_place;
 use reply::Reply;
 use state::encoder::forms_encoder;
-use statics::table::static_text;
 
 // A block in turn whose list reads well: 13, 12, or its bytes, its references, and its part written.
 fn give(m: &mut [u8], stream: u64, part: u64, s: &[u8], out: &mut [u8]) -> Reply
@@ -33,19 +28,14 @@ fn give(m: &mut [u8], stream: u64, part: u64, s: &[u8], out: &mut [u8]) -> Reply
     ensures { λ _. ⌜ now (m .exit) ≡ blockCall (now (m .entry)) stream part (now (s .entry)) (now (out .entry)) .memory ⌝ }
     ensures { λ _. ⌜ now (out .exit) ≡ blockCall (now (m .entry)) stream part (now (s .entry)) (now (out .entry)) .output ⌝ }
 {
-    let text = static_text();
-    let n = measure(&text, m, s);
-    if BLOCK_LIMIT < n {
-        return Reply::refused(TOO_LONG);
-    }
-    if out.len() < n {
-        return Reply::refused(NO_ROOM);
-    }
-    write_block(&text, m, s, out);
     let number = StreamNumber {
         value: stream as u16,
     };
-    refer_block(m, number, part, &out[..n]);
+    let answer = room_answer(m, number, part, s, out);
+    if answer != 0 {
+        return Reply::refused(answer);
+    }
+    let n = write_list(m, number, part, s, out, true);
     clear(m, marks_place(part), number);
     Reply::done(n as u32, 0)
 }

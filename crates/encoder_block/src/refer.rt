@@ -1,20 +1,13 @@
-// The references of a written block entered: the block is read again, so that no field is searched for once more.
+// The references of a block that is being written: each is entered with its field, so that nothing is searched for or read again.
 ghost use mathlib.Core.Path.{_≡_};
-ghost use mathlib.Core.Bool.{true};
 ghost use Prim.Native.Nat.{_≤_, _<_};
 ghost use lib.ListN.{length};
-ghost use Rattle.blocks.specs.Reading.{readBlock};
-ghost use Rattle.state.specs.EncoderState.{encoderOf};
-ghost use Rattle.state.specs.Forms.{formsEncoder};
-ghost use Rattle.encoder_fields.specs.Refer.{AllHeld, entered, enteredOne, enteredAt, InTable, blockOf, Reads};
-use blocks::read::RepresentationPlace;
-use blocks::read::RepresentationRead;
-use blocks::read::read_representation;
+ghost use Rattle.encoder_fields.specs.Refer.{enteredOne, enteredChoice, InTable};
 use deletes::references::refer_plain;
 use deletes::references::refer_trailer;
+use encoder_fields::choice::Choice;
 use integers::number::StreamNumber;
 use integers::number::TableIndex;
-use wire::name::NamePlace;
 
 // A block of this part on this stream refers to this index. Static entries have no horizon.
 fn enter(m: &mut [u8], stream: StreamNumber, part: u64, index: TableIndex)
@@ -31,35 +24,15 @@ fn enter(m: &mut [u8], stream: StreamNumber, part: u64, index: TableIndex)
     }
 }
 
-// The representation at a place of that block refers to the index that it names, if it does.
-fn enter_place(m: &mut [u8], stream: StreamNumber, part: u64, place: RepresentationPlace)
+// A field of that block refers to the index that its representation names, if it does.
+pub fn enter_choice(m: &mut [u8], stream: StreamNumber, part: u64, choice: Choice)
     requires { ⌜ (stream .value < 4096) × (16960 ≤ length (now m)) ⌝ }
-    requires { ⌜ InTable place ⌝ }
-    ensures { λ _. ⌜ now (m .exit) ≡ enteredAt (now (m .entry)) (stream .value) part place ⌝ }
+    requires { ⌜ InTable choice ⌝ }
+    ensures { λ _. ⌜ now (m .exit) ≡ enteredChoice (now (m .entry)) (stream .value) part choice ⌝ }
 {
-    match place {
-        RepresentationPlace::Indexed(i) => enter(m, stream, part, i),
-        RepresentationPlace::Literal(_, name, _) => match name {
-            NamePlace::Index(i) => enter(m, stream, part, i),
-            NamePlace::Text(_) => {}
-        },
-    }
-}
-
-// All references of the block `b`, which reads well.
-pub fn refer_block(m: &mut [u8], stream: StreamNumber, part: u64, b: &[u8])
-    requires { ⌜ (stream .value < 4096) × (formsEncoder (now m) ≡ true) ⌝ }
-    requires { ⌜ Reads (now b) ⌝ }
-    requires { ⌜ AllHeld (encoderOf (now m) .entries) (blockOf (readBlock (now b))) ⌝ }
-    ensures { λ _. ⌜ now (m .exit) ≡ entered (now (m .entry)) (stream .value) part (blockOf (readBlock (now (b .entry)))) ⌝ }
-{
-    let mut at: usize = 0;
-    while at < b.len() {
-        let r = read_representation(b, at);
-        let RepresentationRead::Found(place, next) = r else {
-            return;
-        };
-        enter_place(m, stream, part, place);
-        at = next;
+    match choice {
+        Choice::Indexed(i) => enter(m, stream, part, i),
+        Choice::Named(i) => enter(m, stream, part, i),
+        Choice::Literal => {}
     }
 }

@@ -11,6 +11,7 @@ use Rattle.wire.specs.Name.{indexed as by-index, literal as by-bytes}
 use Rattle.statics.specs.Search.{findName, findBoth}
 use Rattle.statics.specs.declared.search.StaticFound.{StaticFound}
 use Rattle.statics.specs.declared.search.StaticFound.the-variants.{At, Nothing as NotStatic}
+use Rattle.statics.proofs.Finding.{name-found, start-nothing}
 use Rattle.integers.specs.declared.number.TableIndex.{TableIndex}
 use Rattle.fields.specs.Form.{Field}
 use Rattle.blocks.specs.Representation.{indexed, literal}
@@ -24,8 +25,19 @@ use Rattle.search.specs.Search.{Ordered, servesAt, servesBothAt, lowestRow}
 use Rattle.search.specs.declared.names.Sought.the-variants.{Row, Nothing}
 use Rattle.changes.specs.EncoderChanges.{EncoderChanges}
 use Rattle.changes.proofs.EncoderClaim.{encoder-claim}
-use Rattle.encoder_fields.specs.Measure.{fieldWith, Chooses}
+use Rattle.encoder_fields.specs.Measure.{fieldWith, Chooses, FirstNamed, staticBoth}
 use Rattle.encoder_fields.specs.declared.choice.Choice.{Choice}
+
+-- ---- the static entry with a name
+
+module _ (name : List ℕ) where
+  pub first-named : (o : StaticFound) → findName name ≡ o → FirstNamed o
+  first-named (At j) e = let l = name-found name 61 1 j e in (l .low, omega (arith, l .high), ap findName (l .holds) ∙ e)
+  first-named NotStatic e = tt
+
+  pub static-both : (o : StaticFound) → findName name ≡ o → (value : List ℕ) → findBoth name value ≡ staticBoth o value
+  static-both (At j) e value = ap (λ (n : List ℕ). findBoth n value) (sym (name-found name 61 1 j e .holds))
+  static-both NotStatic e value = start-nothing name value e
 
 -- ---- a literal's name
 
@@ -106,6 +118,6 @@ module _ (m : List ℕ) (small : Small m) (forms : formsEncoder m ≡ true) wher
 
 -- ---- a field whose name and value stand elsewhere
 
-pub same-field : (m : List ℕ) (choice : Choice) (flag : ℕ) {name name′ value value′ : List ℕ} → name ≡ name′ → value ≡ value′
-    → Chooses m (fieldWith flag name value) choice → Chooses m (fieldWith flag name′ value′) choice
-same-field m choice flag e d h = rw (← e, ← d) h
+pub same-field : (m : List ℕ) (choice : Choice) {flag flag′ : ℕ} {name name′ value value′ : List ℕ} → flag ≡ flag′ → name ≡ name′ → value ≡ value′
+    → Chooses m (fieldWith flag name value) choice → Chooses m (fieldWith flag′ name′ value′) choice
+same-field m choice c e d h = rw (← c, ← e, ← d) h

@@ -67,7 +67,7 @@ field-fine s p i = record {
 -- ---- bytes
 
 module _ (r : Representation) (rs : List Representation) where
-  length-more : length (blockWire (r ∷ rs)) ≡ length (representationWire r) + length (blockWire rs)
+  pub length-more : length (blockWire (r ∷ rs)) ≡ length (representationWire r) + length (blockWire rs)
   length-more = ap length (block-wire-cons r rs) ∙ length-append (representationWire r) (blockWire rs)
 
   overlay-more : (out : List ℕ) (to : ℕ)

@@ -2,3 +2,4 @@
 pub mod Choosing
 pub mod Chosen
 pub mod Fields
+pub mod Bound

@@ -5,18 +5,17 @@ use mathlib.Core.Bool.{true}
 use mathlib.Core.List.{List, [], map}
 use lib.Dec.{eqb, ltb}
 use Rattle.memory.specs.Choice.{pick}
-use Rattle.wire.specs.declared.name.NamePlace.the-variants.{Index, Text}
-use Rattle.blocks.specs.Representation.{Representation}
-use Rattle.blocks.specs.Reading.{BlockRead, block, refused, readBlock}
+use Rattle.wire.specs.Name.{indexed as by-index, literal as by-bytes}
+use Rattle.blocks.specs.Representation.{Representation, indexed, literal}
 use Rattle.blocks.specs.Meaning.{Refers}
-use Rattle.blocks.specs.declared.read.RepresentationPlace.{RepresentationPlace}
-use Rattle.blocks.specs.declared.read.RepresentationPlace.the-variants.{Indexed, Literal}
 use Rattle.model.specs.Table.{look}
 use Rattle.model.specs.Parts.{Part, nontrailer, trailer}
 use Rattle.model.specs.Decoder.{isSome}
 use Rattle.model.specs.Encoder.{Sent, sentIndex, withSent, refer}
 use Rattle.state.specs.EncoderState.{encoderOf, overlayEncoder}
 use Rattle.deletes.specs.Deletes.{raised}
+use Rattle.encoder_fields.specs.declared.choice.Choice.{Choice}
+use Rattle.encoder_fields.specs.declared.choice.Choice.the-variants.{Indexed, Named, Literal}
 
 abbrev pub partAt : ℕ → Part
 partAt n = pick (eqb n 0) nontrailer trailer
@@ -33,22 +32,20 @@ entered m stream part rs = overlayEncoder (withSent (encoderOf m) (map (refer st
 unfoldable pub enteredOne : List ℕ → ℕ → ℕ → ℕ → List ℕ
 enteredOne m stream part index = pick (ltb index 62) m (raised m index (partAt part) stream)
 
--- that of the representation at a place, if it names an index
-abbrev pub enteredAt : List ℕ → ℕ → ℕ → RepresentationPlace → List ℕ
-enteredAt m stream part (Indexed i) = enteredOne m stream part (i .value)
-enteredAt m stream part (Literal flag (Index i) value) = enteredOne m stream part (i .value)
-enteredAt m stream part (Literal flag (Text name) value) = m
+-- that of a representation, if it names an index
+abbrev pub enteredBy : List ℕ → ℕ → ℕ → Representation → List ℕ
+enteredBy m stream part (indexed i) = enteredOne m stream part i
+enteredBy m stream part (literal flag (by-index i) value) = enteredOne m stream part i
+enteredBy m stream part (literal flag (by-bytes name) value) = m
 
--- the index named there has a reference, or is static
-abbrev pub InTable : RepresentationPlace → Type 0
+-- that of a choice
+abbrev pub enteredChoice : List ℕ → ℕ → ℕ → Choice → List ℕ
+enteredChoice m stream part (Indexed i) = enteredOne m stream part (i .value)
+enteredChoice m stream part (Named i) = enteredOne m stream part (i .value)
+enteredChoice m stream part Literal = m
+
+-- the index that it names has a reference, or is static
+abbrev pub InTable : Choice → Type 0
 InTable (Indexed i) = i .value ≤ 189
-InTable (Literal flag (Index i) value) = i .value ≤ 189
-InTable (Literal flag (Text name) value) = Unit {0}
-
--- the representations of a block that reads well
-abbrev pub blockOf : BlockRead → List Representation
-blockOf (block rs) = rs
-blockOf (refused number) = []
-
-abbrev pub Reads : List ℕ → Type 0
-Reads b = (rs : List Representation) × (readBlock b ≡ block rs)
+InTable (Named i) = i .value ≤ 189
+InTable Literal = Unit {0}

@@ -4,7 +4,6 @@ ghost use mathlib.Core.Path.{_≡_};
 ghost use mathlib.Core.Bool.{true};
 ghost use Prim.Native.Nat.{_≤_, _<_};
 ghost use lib.ListN.{length};
-ghost use Rattle.statics.specs.Table.{staticText};
 ghost use Rattle.statics.specs.Search.{findName};
 ghost use Rattle.fields.specs.Reading.{InText, textOf, fieldOf};
 ghost use Rattle.blocks.specs.Representation.{literal};
@@ -12,11 +11,12 @@ ghost use Rattle.model.specs.Encoder.{chooseName};
 ghost use Rattle.state.specs.Layout.{indexAt};
 ghost use Rattle.state.specs.EncoderState.{encoderOf};
 ghost use Rattle.state.specs.Forms.{formsEncoder};
-ghost use Rattle.encoder_fields.specs.Measure.{InField, chosen, fieldWith, Chooses};
+ghost use Rattle.encoder_fields.specs.Measure.{InField, chosen, fieldWith, Chooses, FirstNamed, staticBoth};
 use fields::read::FieldPlace;
 use fields::read::TextPlace;
 use integers::number::TableIndex;
 use memory::number::u32_at;
+use search::names::Paired;
 use search::names::Sought;
 use state::layout::row_place;
 use statics::search::StaticFound;
@@ -50,70 +50,66 @@ fn index_at(m: &[u8], place: usize) -> TableIndex
     }
 }
 
-// A field whose name the static table has, at this index first.
-fn choose_static(
-    text: &[u8],
-    m: &[u8],
-    flag: u8,
-    i: TableIndex,
-    name: &[u8],
-    value: &[u8],
-) -> Choice
-    requires { ⌜ now text ≡ staticText ⌝ }
-    requires { ⌜ (formsEncoder (now m) ≡ true) × (flag < 2) × (length (now name) ≤ 255) × (length (now value) ≤ 2047) ⌝ }
-    requires { ⌜ findName (now name) ≡ StaticFound.At i ⌝ }
-    ensures { λ r. ⌜ Chooses (now (m .entry)) (fieldWith flag (now (name .entry)) (now (value .entry))) r ⌝ }
+// A literal, where `named` is the static entry with the name.
+fn choose_literal(m: &[u8], named: StaticFound, flag: u8, name: &[u8], value: &[u8]) -> Choice
+    requires { ⌜ formsEncoder (now m) ≡ true ⌝ }
+    requires { ⌜ findName (now name) ≡ named ⌝ }
+    ensures { λ r. ⌜ chosen (fieldWith flag (now (name .entry)) (now (value .entry))) r
+        ≡ literal flag (chooseName (encoderOf (now (m .entry)) .entries) (now (name .entry))) (now (value .entry)) ⌝ }
 {
-    if flag == 1 {
-        return Choice::Named(i);
-    }
-    match statics::search::find_both(text, name, value, i.value) {
-        StaticFound::At(j) => Choice::Indexed(j),
-        StaticFound::Nothing => match search::names::find_both(m, name, value) {
-            Sought::Row(place) => Choice::Indexed(index_at(m, place)),
-            Sought::Nothing => Choice::Named(i),
+    match named {
+        StaticFound::At(i) => Choice::Named(i),
+        StaticFound::Nothing => match search::names::find_name(m, name) {
+            Sought::Row(place) => Choice::Named(index_at(m, place)),
+            Sought::Nothing => Choice::Literal,
         },
     }
 }
 
-// A literal whose name the static table has not.
-fn choose_literal(m: &[u8], flag: u8, name: &[u8], value: &[u8]) -> Choice
-    requires { ⌜ formsEncoder (now m) ≡ true ⌝ }
-    requires { ⌜ findName (now name) ≡ StaticFound.Nothing ⌝ }
-    ensures { λ r. ⌜ chosen (fieldWith flag (now (name .entry)) (now (value .entry))) r
-        ≡ literal flag (chooseName (encoderOf (now (m .entry)) .entries) (now (name .entry))) (now (value .entry)) ⌝ }
+// The static entry with this value, and with the name of `named`.
+fn find_static(named: StaticFound, value: &[u8]) -> StaticFound
+    requires { ⌜ FirstNamed named ⌝ }
+    ensures { λ r. ⌜ r ≡ staticBoth named (now (value .entry)) ⌝ }
 {
-    match search::names::find_name(m, name) {
-        Sought::Row(place) => Choice::Named(index_at(m, place)),
-        Sought::Nothing => Choice::Literal,
+    match named {
+        StaticFound::At(i) => statics::search::find_value(i, value),
+        StaticFound::Nothing => StaticFound::Nothing,
     }
 }
 
-// A field whose name the static table has not.
-fn choose_dynamic(m: &[u8], flag: u8, name: &[u8], value: &[u8]) -> Choice
-    requires { ⌜ (formsEncoder (now m) ≡ true) × (flag < 2) × (length (now name) ≤ 255) × (length (now value) ≤ 2047) ⌝ }
-    requires { ⌜ findName (now name) ≡ StaticFound.Nothing ⌝ }
-    ensures { λ r. ⌜ Chooses (now (m .entry)) (fieldWith flag (now (name .entry)) (now (value .entry))) r ⌝ }
+// A field that may be stored, where `named` is the static entry with the name.
+fn choose_stored(m: &[u8], named: StaticFound, name: &[u8], value: &[u8]) -> Choice
+    requires { ⌜ formsEncoder (now m) ≡ true ⌝ }
+    requires { ⌜ findName (now name) ≡ named ⌝ }
+    ensures { λ r. ⌜ Chooses (now (m .entry)) (fieldWith 0 (now (name .entry)) (now (value .entry))) r ⌝ }
 {
-    if flag == 1 {
-        return choose_literal(m, flag, name, value);
-    }
-    match search::names::find_both(m, name, value) {
-        Sought::Row(place) => Choice::Indexed(index_at(m, place)),
-        Sought::Nothing => choose_literal(m, flag, name, value),
+    match find_static(named, value) {
+        StaticFound::At(j) => Choice::Indexed(j),
+        StaticFound::Nothing => match search::names::find_pair(m, name, value) {
+            Paired::Both(place) => Choice::Indexed(index_at(m, place)),
+            Paired::Name(place) => match named {
+                StaticFound::At(i) => Choice::Named(i),
+                StaticFound::Nothing => Choice::Named(index_at(m, place)),
+            },
+            Paired::Nothing => match named {
+                StaticFound::At(i) => Choice::Named(i),
+                StaticFound::Nothing => Choice::Literal,
+            },
+        },
     }
 }
 
 // The field of the list `s` that stands there.
-pub fn choose_field(text: &[u8], m: &[u8], s: &[u8], f: FieldPlace) -> Choice
-    requires { ⌜ (now text ≡ staticText) × (formsEncoder (now m) ≡ true) ⌝ }
+pub fn choose_field(m: &[u8], s: &[u8], f: FieldPlace) -> Choice
+    requires { ⌜ formsEncoder (now m) ≡ true ⌝ }
     requires { ⌜ InField (now s) f ⌝ }
     ensures { λ r. ⌜ Chooses (now (m .entry)) (fieldOf (now (s .entry)) f) r ⌝ }
 {
     let name = text_at(s, f.name);
     let value = text_at(s, f.value);
-    match statics::search::find_name(text, name) {
-        StaticFound::At(i) => choose_static(text, m, f.flag, i, name, value),
-        StaticFound::Nothing => choose_dynamic(m, f.flag, name, value),
+    let named = statics::search::find_name(name);
+    if f.flag == 1 {
+        return choose_literal(m, named, 1, name, value);
     }
+    choose_stored(m, named, name, value)
 }

@@ -1,4 +1,4 @@
-// The fields of a list: the choice of their representations, measured and written.
+// A field of a list: the choice of its representation, measured and written.
 pub mod choice;
 pub mod measure;
 pub mod write;

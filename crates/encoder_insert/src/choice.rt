@@ -1,7 +1,6 @@
 // The name of an insert or of a literal: by the lowest static index with it, else the lowest dynamic one not under deletion, else by its bytes.
 ghost use mathlib.Core.Path.{_≡_};
 ghost use mathlib.Core.Bool.{true};
-ghost use Rattle.statics.specs.Table.{staticText};
 ghost use Rattle.model.specs.Encoder.{chooseName};
 ghost use Rattle.state.specs.EncoderState.{encoderOf};
 ghost use Rattle.state.specs.Forms.{formsEncoder};
@@ -30,12 +29,11 @@ fn choose_dynamic(m: &[u8], name: &[u8]) -> NameChoice
     }
 }
 
-pub fn choose_name(text: &[u8], m: &[u8], name: &[u8]) -> NameChoice
-    requires { ⌜ now text ≡ staticText ⌝ }
+pub fn choose_name(m: &[u8], name: &[u8]) -> NameChoice
     requires { ⌜ formsEncoder (now m) ≡ true ⌝ }
     ensures { λ r. ⌜ chosenName (now (name .entry)) r ≡ chooseName (encoderOf (now (m .entry)) .entries) (now (name .entry)) ⌝ }
 {
-    match statics::search::find_name(text, name) {
+    match statics::search::find_name(name) {
         StaticFound::At(i) => NameChoice::Index(i),
         StaticFound::Nothing => choose_dynamic(m, name),
     }

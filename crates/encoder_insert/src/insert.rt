@@ -33,7 +33,6 @@ use state::layout::FIRST_INDEX;
 use state::layout::HELD;
 use state::layout::LIMIT;
 use state::layout::PLACES;
-use statics::table::static_text;
 use wire::text::NAME_LIMIT;
 use wire::text::VALUE_LIMIT;
 
@@ -55,8 +54,7 @@ fn insert_fitting(m: &mut [u8], name: &[u8], value: &[u8], out: &mut [u8]) -> Re
     ensures { λ _. ⌜ now (m .exit) ≡ fittingInsert (now (m .entry)) (now (name .entry)) (now (value .entry)) (now (out .entry)) .memory ⌝ }
     ensures { λ _. ⌜ now (out .exit) ≡ fittingInsert (now (m .entry)) (now (name .entry)) (now (value .entry)) (now (out .entry)) .output ⌝ }
 {
-    let text = static_text();
-    let choice = choose_name(&text, m, name);
+    let choice = choose_name(m, name);
     let place = lowest_vacant(m);
     let index = TableIndex {
         value: FIRST_INDEX + (place as u32),

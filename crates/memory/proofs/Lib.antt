@@ -3,6 +3,7 @@ pub mod Order
 pub mod Overlay
 pub mod Places
 pub mod Moving
+pub mod Covering
 pub mod Numbers
 pub mod Sameness
 pub mod Zeros

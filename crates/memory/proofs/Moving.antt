@@ -1,22 +1,12 @@
--- The turns of copying and moving bytes: a turn stores one byte more, and the byte that it reads has not been stored over.
+-- The turns of moving bytes: a turn stores one byte more, and the byte that it reads has not been stored over.
 use mathlib.Core.Path.{_≡_, sym, ap, _∙_}
 use Prim.Native.Nat.{ℕ, zero, suc, _+_, _-_, _≤_, _<_}
 use native.Mathlib.Omega.{arith}
-use native.Mathlib.Numerals.{add-one}
 use mathlib.Core.List.{List, [], _∷_}
-use lib.ListN.{length, getD, drop, set, drop-of-length-le}
-use lib.Seq.{drop-cons}
+use lib.ListN.{length, getD, set}
 use Rattle.memory.specs.Bytes.{part, overlay, moved}
 use Rattle.memory.proofs.Overlay.{overlay-before, overlay-after, overlay-append, set-overlay}
 use Rattle.memory.proofs.Places.{part-cons, part-snoc, length-part}
-
--- a turn of a copy, and its end
-pub copy-more : (s : List ℕ) (i : ℕ) (l : List ℕ) (at : ℕ) → i < length s
-    → overlay l at (drop i s) ≡ overlay (set l at (getD s i 0)) (at + 1) (drop (i + 1) s)
-copy-more s i l at h = rw (add-one i, drop-cons s i 0)
-
-pub copy-done : (s : List ℕ) (i : ℕ) (l : List ℕ) (at : ℕ) → length s ≤ i → overlay l at (drop i s) ≡ l
-copy-done s i l at h = rw (drop-of-length-le s h)
 
 -- down: the first i bytes have been moved
 module _ (m : List ℕ) (to from n i : ℕ) (lo : to ≤ from) (hi : from + n ≤ length m) where

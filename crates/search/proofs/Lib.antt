@@ -1,6 +1,8 @@
 -- The laws of `search`: plain values, for the functions' proofs and the crates above.
+pub mod Ends
 pub mod Fields
 pub mod Finding
 pub mod Walking
 pub mod Serving
+pub mod Pairing
 pub mod Modelled

@@ -12,6 +12,8 @@ use Rattle.search.specs.declared.find.Found.{Found}
 use Rattle.search.specs.declared.find.Found.the-variants.{At, Vacant}
 use Rattle.search.specs.declared.names.Sought.{Sought}
 use Rattle.search.specs.declared.names.Sought.the-variants.{Row, Nothing}
+use Rattle.search.specs.declared.names.Paired.{Paired}
+use Rattle.search.specs.declared.names.Paired.the-variants.{Both, Name, Nothing as NoRow}
 
 -- what searches rely on; memory that forms a state of either end has it
 pub record Ordered (m : List ℕ) : Type 0 where
@@ -36,6 +38,9 @@ vacantFrom m (suc k) i = pick (eqb (indexAt m i) (62 + i)) (vacantFrom m k (i + 
 unfoldable pub servesAt : List ℕ → List ℕ → ℕ → Bool
 servesAt m name i = eqb (statusAt m i) 0 && same (nameAt m i) name
 
+unfoldable pub hasValueAt : List ℕ → List ℕ → ℕ → Bool
+hasValueAt m value i = same (valueAt m i) value
+
 unfoldable pub servesBothAt : List ℕ → List ℕ → List ℕ → ℕ → Bool
 servesBothAt m name value i = servesAt m name i && same (valueAt m i) value
 
@@ -43,3 +48,9 @@ servesBothAt m name value i = servesAt m name i && same (valueAt m i) value
 unfoldable pub lowestRow : (ℕ → Bool) → ℕ → ℕ → Sought
 lowestRow test zero i = Nothing
 lowestRow test (suc k) i = pick (test i) (Row i) (lowestRow test k (i + 1))
+
+-- the row of name and value, else that of the name
+unfoldable pub paired : Sought → Sought → Paired
+paired (Row i) named = Both i
+paired Nothing (Row i) = Name i
+paired Nothing Nothing = NoRow

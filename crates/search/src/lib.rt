@@ -2,3 +2,4 @@
 pub mod find;
 pub mod names;
 pub mod place;
+pub mod text;

@@ -4,3 +4,5 @@ pub mod Places
 pub mod Arms
 pub mod Testing
 pub mod Finding
+pub mod Hashing
+pub mod Runs

@@ -2,7 +2,8 @@
 -- names and values are short, and of bytes, is a computed test.
 use mathlib.Core.Path.{_≡_, refl, sym, subst}
 use mathlib.Core.Bool.{Bool, true, false}
-use Prim.Native.Nat.{ℕ, zero, suc, _+_, _-_, _≤_}
+use Prim.Native.Nat.{ℕ, zero, suc, _+_, _-_, _≤_, _<_}
+use native.Mathlib.Nat.{le-of-suc-le-suc, not-suc-le-zero}
 use native.Mathlib.Omega.{arith}
 use mathlib.Core.List.{List, [], _∷_}
 use lib.Dec.{T, leb, ltb, leb→le, ltb→lt}
@@ -48,19 +49,19 @@ module _ (i : ℕ) (lo : 1 ≤ i) (hi : i ≤ 61) where
 
 -- ---- sizes
 
-abbrev both : Bool → Bool → Bool
+abbrev pub both : Bool → Bool → Bool
 both true b = b
 both false b = false
 
-both-left : (a b : Bool) → T (both a b) → T a
+pub both-left : (a b : Bool) → T (both a b) → T a
 both-left true b t = tt
 both-left false b t = t
 
-both-right : (a b : Bool) → T (both a b) → T b
+pub both-right : (a b : Bool) → T (both a b) → T b
 both-right true b t = t
 both-right false b t = absurd t
 
-abbrev every : {A : Type 0} → (A → Bool) → List A → Bool
+abbrev pub every : {A : Type 0} → (A → Bool) → List A → Bool
 every f [] = true
 every f (x ∷ xs) = both (f x) (every f xs)
 
@@ -68,6 +69,12 @@ every-at : {A : Type 0} (f : A → Bool) (d : A) (xs : List A) → T (f d) → T
 every-at f d [] h t k = h
 every-at f d (x ∷ xs) h t zero = both-left (f x) (every f xs) t
 every-at f d (x ∷ xs) h t (suc k) = every-at f d xs h (both-right (f x) (every f xs) t) k
+
+-- an element that there is
+pub every-in : {A : Type 0} (f : A → Bool) (d : A) (xs : List A) → T (every f xs) → (k : ℕ) → k < length xs → T (f (getD xs k d))
+every-in f d [] t k h = absurd (not-suc-le-zero h)
+every-in f d (x ∷ xs) t zero h = both-left (f x) (every f xs) t
+every-in f d (x ∷ xs) t (suc k) h = every-in f d xs (both-right (f x) (every f xs) t) k (le-of-suc-le-suc h)
 
 -- a list of at most 255 bytes
 abbrev short : List ℕ → Bool

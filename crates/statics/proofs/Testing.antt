@@ -1,17 +1,17 @@
 -- One entry of the static table compared with a name or a value: lengths that differ decide, and else the bytes at the entry's place do.
 use mathlib.Core.Path.{_≡_, sym, ap, ap₂, _∙_}
-use mathlib.Core.Bool.{true, false}
+use mathlib.Core.Bool.{false}
 use Prim.Native.Nat.{ℕ, _+_, _≤_}
 use native.Mathlib.Omega.{arith}
 use mathlib.Core.List.{List}
 use lib.ListN.{length}
 use Rattle.memory.specs.Bytes.{part}
 use Rattle.memory.specs.Compare.{sameAt, same}
-use Rattle.memory.proofs.Order.{pick-true, pick-false}
 use Rattle.memory.proofs.Places.{part-all}
 use Rattle.memory.proofs.Sameness.{sameAt-same, length-same}
 use Rattle.statics.specs.Table.{entryAt, staticName, staticValue}
-use Rattle.statics.specs.Search.{hasName, hasBoth}
+use Rattle.statics.specs.Search.{hasName}
+use Rattle.statics.specs.Hash.{hasValue}
 use Rattle.statics.specs.declared.table.StaticPlace.{StaticPlace}
 use Rattle.statics.proofs.Entries.{Stands}
 
@@ -30,19 +30,11 @@ module _ {text : List ℕ} {p : StaticPlace} (i : ℕ) (s : Stands text p (entry
   unfolding hasName
   name-other f = sym (length-same (staticName i) name (λ e. f (sym (s .name-length) ∙ e)))
 
-  pub both-name : (value : List ℕ) → hasName i name ≡ false → false ≡ hasBoth i name value
-  unfolding hasBoth
-  both-name value t = sym (pick-false (hasName i name) (same (staticValue i) value) false t)
+module _ {text : List ℕ} {p : StaticPlace} (i : ℕ) (s : Stands text p (entryAt i)) (value : List ℕ) where
+  pub value-same : p .value ≡ length value → sameAt (p .value) text (p .start + p .name) value 0 ≡ hasValue i value
+  unfolding hasValue
+  value-same l = same-part text (p .start + p .name) (p .value) (staticValue i) value (s .value) (s .end) l
 
-  module _ (value : List ℕ) (t : hasName i name ≡ true) where
-    pub value-same : p .value ≡ length value → sameAt (p .value) text (p .start + p .name) value 0 ≡ hasBoth i name value
-    unfolding hasBoth
-    value-same l =
-        same-part text (p .start + p .name) (p .value) (staticValue i) value (s .value) (s .end) l
-        ∙ sym (pick-true (hasName i name) (same (staticValue i) value) false t)
-
-    pub value-other : (p .value ≡ length value → ⊥) → false ≡ hasBoth i name value
-    unfolding hasBoth
-    value-other f =
-        sym (pick-true (hasName i name) (same (staticValue i) value) false t
-        ∙ length-same (staticValue i) value (λ e. f (sym (s .value-length) ∙ e)))
+  pub value-other : (p .value ≡ length value → ⊥) → false ≡ hasValue i value
+  unfolding hasValue
+  value-other f = sym (length-same (staticValue i) value (λ e. f (sym (s .value-length) ∙ e)))

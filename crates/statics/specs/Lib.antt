@@ -2,3 +2,4 @@
 pub mod Ascii
 pub mod Table
 pub mod Search
+pub mod Hash

@@ -1,10 +1,14 @@
-// Searches of the static table. Lengths are compared first, so that most entries cost one look.
+// Searches of the static table: a name's hash leaves one entry to compare, and entries with one name stand together.
 ghost use mathlib.Core.Path.{_≡_};
-ghost use Prim.Native.Nat.{ℕ, _+_, _-_, _≤_};
-ghost use Rattle.statics.specs.Table.{staticText};
-ghost use Rattle.statics.specs.Search.{hasName, hasBoth, lowestName, lowestBoth, findName};
-use crate::table::LAST;
+ghost use Prim.Native.Nat.{ℕ, _+_, _≤_};
+ghost use lib.ListN.{length};
+ghost use Rattle.statics.specs.Table.{staticName};
+ghost use Rattle.statics.specs.Search.{hasName, findName, findBoth};
+ghost use Rattle.statics.specs.Hash.{hasValue, lastOf};
+use crate::hashes::hashed_entry;
+use crate::hashes::name_hash;
 use crate::table::static_place;
+use crate::table::static_text;
 use integers::number::TableIndex;
 use memory::compare::same;
 
@@ -13,9 +17,8 @@ pub enum StaticFound {
     Nothing,
 }
 
-// Has the entry with index `i` this name?
-fn has_name(text: &[u8], i: u32, name: &[u8]) -> bool
-    requires { ⌜ now text ≡ staticText ⌝ }
+// Has the entry with index `i` this name? The text is only read here, so that the compiler makes no copy of it.
+fn has_name(i: u32, name: &[u8]) -> bool
     requires { ⌜ (1 ≤ i) × (i ≤ 61) ⌝ }
     ensures { λ r. ⌜ r ≡ hasName i (now (name .entry)) ⌝ }
 {
@@ -24,50 +27,60 @@ fn has_name(text: &[u8], i: u32, name: &[u8]) -> bool
     if n != name.len() {
         return false;
     }
-    same(text, p.start as usize, name, 0, n)
+    let text = static_text();
+    same(&text, p.start as usize, name, 0, n)
 }
 
-// Has the entry with index `i` this name and this value?
-fn has_both(text: &[u8], i: u32, name: &[u8], value: &[u8]) -> bool
-    requires { ⌜ now text ≡ staticText ⌝ }
+// Has the entry with index `i` this value?
+fn has_value(i: u32, value: &[u8]) -> bool
     requires { ⌜ (1 ≤ i) × (i ≤ 61) ⌝ }
-    ensures { λ r. ⌜ r ≡ hasBoth i (now (name .entry)) (now (value .entry)) ⌝ }
+    ensures { λ r. ⌜ r ≡ hasValue i (now (value .entry)) ⌝ }
 {
     let p = static_place(i);
     let n = p.value as usize;
-    if !has_name(text, i, name) {
-        return false;
-    }
     if n != value.len() {
         return false;
     }
-    same(text, (p.start as usize) + (p.name as usize), value, 0, n)
+    let text = static_text();
+    same(&text, (p.start as usize) + (p.name as usize), value, 0, n)
 }
 
 // The lowest index of an entry with this name.
-pub fn find_name(text: &[u8], name: &[u8]) -> StaticFound
-    requires { ⌜ now text ≡ staticText ⌝ }
+pub fn find_name(name: &[u8]) -> StaticFound
     ensures { λ r. ⌜ r ≡ findName (now (name .entry)) ⌝ }
 {
-    let mut i: u32 = 1;
-    while i <= LAST {
-        if has_name(text, i, name) {
-            return StaticFound::At(TableIndex { value: i });
-        }
-        i += 1;
+    if name.len() == 0 {
+        return StaticFound::Nothing;
     }
-    StaticFound::Nothing
+    let i = hashed_entry(name_hash(name));
+    if !has_name(i, name) {
+        return StaticFound::Nothing;
+    }
+    StaticFound::At(TableIndex { value: i })
 }
 
-// The lowest index from `from` on of an entry with this name and this value. The lowest entry with the name is a good start.
-pub fn find_both(text: &[u8], name: &[u8], value: &[u8], from: u32) -> StaticFound
-    requires { ⌜ now text ≡ staticText ⌝ }
-    requires { ⌜ (1 ≤ from) × (from ≤ 62) ⌝ }
-    ensures { λ r. ⌜ r ≡ lowestBoth (62 - from) from (now (name .entry)) (now (value .entry)) ⌝ }
+// The last entry with the name of this one, which is the lowest with it: only four names occur more than once.
+fn last_of(i: u32) -> u32
+    ensures { λ r. ⌜ r ≡ lastOf i ⌝ }
 {
-    let mut i: u32 = from;
-    while i <= LAST {
-        if has_both(text, i, name, value) {
+    match i {
+        2 => 3,
+        4 => 5,
+        6 => 7,
+        8 => 14,
+        _ => i,
+    }
+}
+
+// The lowest entry with this value and with the name of `first`, which is the lowest with it.
+pub fn find_value(first: TableIndex, value: &[u8]) -> StaticFound
+    requires { ⌜ (1 ≤ first .value) × (first .value ≤ 61) × (findName (staticName (first .value)) ≡ StaticFound.At first) ⌝ }
+    ensures { λ r. ⌜ r ≡ findBoth (staticName (first .value)) (now (value .entry)) ⌝ }
+{
+    let last = last_of(first.value);
+    let mut i: u32 = first.value;
+    while i <= last {
+        if has_value(i, value) {
             return StaticFound::At(TableIndex { value: i });
         }
         i += 1;

@@ -1,46 +1,22 @@
 //! The library's calls as a C host makes them: a byte buffer is a pointer and a length, the answer one number.
+use super::kept;
 use super::lent::{Lent, Region};
 use crate::program::call::{Call, End};
 
+// Declared without their arguments, since all are called through `kept`: memory as a pointer and a length, then numbers as they are, each
+// input as a pointer and a length, and the output likewise.
 extern "C" {
-    fn kolowrotan_decoder_start(memory: *mut u8, memory_length: usize, limit: u64) -> u64;
-    fn kolowrotan_decoder_read(memory: *mut u8, memory_length: usize, bytes: *const u8, length: usize) -> u64;
-    fn kolowrotan_decoder_block(
-        memory: *mut u8,
-        memory_length: usize,
-        stream: u64,
-        part: u64,
-        bytes: *const u8,
-        length: usize,
-        output: *mut u8,
-        room: usize,
-    ) -> u64;
-    fn kolowrotan_decoder_ended(memory: *mut u8, memory_length: usize, stream: u64) -> u64;
-    fn kolowrotan_decoder_hold(memory: *const u8, memory_length: usize, index: u64) -> u64;
-    fn kolowrotan_decoder_collect(memory: *mut u8, memory_length: usize, output: *mut u8, room: usize) -> u64;
-    fn kolowrotan_encoder_start(memory: *mut u8, memory_length: usize, limit: u64) -> u64;
-    fn kolowrotan_encoder_insert(
-        memory: *mut u8,
-        memory_length: usize,
-        name: *const u8,
-        name_length: usize,
-        value: *const u8,
-        value_length: usize,
-        output: *mut u8,
-        room: usize,
-    ) -> u64;
-    fn kolowrotan_encoder_delete(memory: *mut u8, memory_length: usize, index: u64, output: *mut u8, room: usize) -> u64;
-    fn kolowrotan_encoder_block(
-        memory: *mut u8,
-        memory_length: usize,
-        stream: u64,
-        part: u64,
-        list: *const u8,
-        length: usize,
-        output: *mut u8,
-        room: usize,
-    ) -> u64;
-    fn kolowrotan_encoder_acknowledge(memory: *mut u8, memory_length: usize, bytes: *const u8, length: usize) -> u64;
+    fn kolowrotan_decoder_start();
+    fn kolowrotan_decoder_read();
+    fn kolowrotan_decoder_block();
+    fn kolowrotan_decoder_ended();
+    fn kolowrotan_decoder_hold();
+    fn kolowrotan_decoder_collect();
+    fn kolowrotan_encoder_start();
+    fn kolowrotan_encoder_insert();
+    fn kolowrotan_encoder_delete();
+    fn kolowrotan_encoder_block();
+    fn kolowrotan_encoder_acknowledge();
 }
 
 /// The longest buffer that a call may lend.
@@ -59,12 +35,13 @@ pub struct Library {
     calls: usize,
 }
 
-/// What a call said: the answer and the two told numbers.
+/// What a call said: the answer and the two told numbers; and whether it kept the registers that a C function must keep.
 #[derive(Clone, Copy, Debug, PartialEq, Eq)]
 pub struct Said {
     pub answer: u8,
     pub first: u64,
     pub second: u64,
+    pub kept: bool,
 }
 
 impl Library {
@@ -141,27 +118,26 @@ impl Library {
     pub fn make(&mut self, call: &Call, lend: usize) -> Said {
         use Call::*;
         self.lend(call);
-        let memory = self.memories[call.end() as usize].pointer;
-        let (bytes, length) = (self.inputs[0].pointer as *const u8, self.inputs[0].length);
-        let (value, value_length) = (self.inputs[1].pointer as *const u8, self.inputs[1].length);
-        let (output, room) = (self.output.pointer, self.output.length);
-        // The buffers lie in this object's regions and do not overlap.
-        let number = unsafe {
-            match *call {
-                DecoderStart { limit } => kolowrotan_decoder_start(memory, lend, limit),
-                DecoderRead { .. } => kolowrotan_decoder_read(memory, lend, bytes, length),
-                DecoderBlock { stream, part, .. } => kolowrotan_decoder_block(memory, lend, stream, part, bytes, length, output, room),
-                DecoderEnded { stream } => kolowrotan_decoder_ended(memory, lend, stream),
-                DecoderCollect { .. } => kolowrotan_decoder_collect(memory, lend, output, room),
-                DecoderHold { index } => kolowrotan_decoder_hold(memory, lend, index),
-                EncoderStart { limit } => kolowrotan_encoder_start(memory, lend, limit),
-                EncoderInsert { .. } => kolowrotan_encoder_insert(memory, lend, bytes, length, value, value_length, output, room),
-                EncoderDelete { index, .. } => kolowrotan_encoder_delete(memory, lend, index, output, room),
-                EncoderBlock { stream, part, .. } => kolowrotan_encoder_block(memory, lend, stream, part, bytes, length, output, room),
-                EncoderAcknowledge { .. } => kolowrotan_encoder_acknowledge(memory, lend, bytes, length),
-            }
+        let pair = |buffer: &Lent| [buffer.pointer as u64, buffer.length as u64];
+        let memory = [self.memories[call.end() as usize].pointer as u64, lend as u64];
+        let [bytes, value] = [pair(&self.inputs[0]), pair(&self.inputs[1])];
+        let output = pair(&self.output);
+        let (function, arguments): (unsafe extern "C" fn(), Vec<[u64; 2]>) = match *call {
+            DecoderStart { limit } => (kolowrotan_decoder_start, vec![memory, [limit, 0]]),
+            DecoderRead { .. } => (kolowrotan_decoder_read, vec![memory, bytes]),
+            DecoderBlock { stream, part, .. } => (kolowrotan_decoder_block, vec![memory, [stream, part], bytes, output]),
+            DecoderEnded { stream } => (kolowrotan_decoder_ended, vec![memory, [stream, 0]]),
+            DecoderCollect { .. } => (kolowrotan_decoder_collect, vec![memory, output]),
+            DecoderHold { index } => (kolowrotan_decoder_hold, vec![memory, [index, 0]]),
+            EncoderStart { limit } => (kolowrotan_encoder_start, vec![memory, [limit, 0]]),
+            EncoderInsert { .. } => (kolowrotan_encoder_insert, vec![memory, bytes, value, output]),
+            EncoderDelete { index, .. } => (kolowrotan_encoder_delete, vec![memory, [index, output[0]], [output[1], 0]]),
+            EncoderBlock { stream, part, .. } => (kolowrotan_encoder_block, vec![memory, [stream, part], bytes, output]),
+            EncoderAcknowledge { .. } => (kolowrotan_encoder_acknowledge, vec![memory, bytes]),
         };
-        Said { answer: number as u8, first: number >> 8 & 0xffff_ffff, second: number >> 40 }
+        // The buffers lie in this object's regions and do not overlap.
+        let (number, kept) = unsafe { kept::call(function as *const (), arguments.as_flattened()) };
+        Said { answer: number as u8, first: number >> 8 & 0xffff_ffff, second: number >> 40, kept }
     }
 }
 

@@ -150,6 +150,9 @@ impl<'a> Bench<'a> {
                 said.answer, said.first, said.second, outcome.answer, outcome.first, outcome.second
             ));
         }
+        if !said.kept {
+            return Err("the library changes a register that a C function must keep".to_string());
+        }
         if outcome.done() {
             match end {
                 End::Decoder => layout::lay_decoder(&mut side.expected, self.second.decoder.as_ref().expect("done")),

@@ -64,7 +64,10 @@ fn place(random: &mut Random, memory: &[u8], end: End) -> (usize, usize) {
     let delete = DELETES + DELETE * random.below(deletes + 1) as usize;
     let reference = REFERENCES + REFERENCE * (number(memory, ROWS + ROW * row, 4) as usize).clamp(62, 189) - REFERENCE * 62;
     match (random.below(4), end) {
-        (0, _) => *random.pick(&[(0, 1), (1, 1), (2, 2), (4, 2), (6, 2), (8, 2), (10, 1), (37, 1), (63, 1)]),
+        (0, _) => {
+            let zero = random.between(10, 63) as usize;
+            *random.pick(&[(0, 1), (1, 1), (2, 2), (4, 2), (6, 2), (8, 2), (zero, 1), (zero, 1)])
+        }
         (1, _) => {
             let (at, width) = *random.pick(&[(0, 4), (4, 2), (6, 2), (8, 2), (10, 2), (12, 4)]);
             (ROWS + ROW * row + at, width)

@@ -2,6 +2,7 @@
 use super::words::{Style, Words};
 use super::{limit, wild};
 use crate::library::compare::{Bench, Ran};
+use crate::library::layout::{DECODER_BYTES, ENCODER_BYTES};
 use crate::program::call::{Call, End};
 use crate::program::tables::Parts;
 use crate::program::wire::LARGEST;
@@ -31,7 +32,7 @@ pub fn run(style: Style, mut random: Random, calls: usize, bench: &mut Bench) ->
 
 /// Memory of some length at each end, with anything in it.
 pub fn memories(random: &mut Random, bench: &mut Bench) {
-    for (end, least) in [(End::Decoder, 35_912), (End::Encoder, 16_960)] {
+    for (end, least) in [(End::Decoder, DECODER_BYTES), (End::Encoder, ENCODER_BYTES)] {
         let length = match random.below(4) {
             0 => least,
             1 => least + random.below(100) as usize,
@@ -51,7 +52,7 @@ pub fn start(random: &mut Random, bench: &mut Bench) -> Ran<()> {
 
 /// A call on a part of an end's memory.
 fn on_short_memory(random: &mut Random, bench: &mut Bench, words: &Words) -> Ran<()> {
-    let (end, least) = *random.pick(&[(End::Decoder, 35_912), (End::Encoder, 16_960)]);
+    let (end, least) = *random.pick(&[(End::Decoder, DECODER_BYTES), (End::Encoder, ENCODER_BYTES)]);
     let length = *random.pick(&[0, 1, 10, 63, 64, 1_088, 7_232, least - 1, least]);
     bench.note(Step::Lend { end, length });
     let call = match (end, random.percent(20)) {
@@ -104,6 +105,10 @@ pub fn call(random: &mut Random, bench: &Bench, words: &Words, streams: u64) -> 
         if random.percent(12) {
             wild::mutate(random, &mut bytes);
             bytes.truncate(BYTES_MOST);
+        }
+        // Not in reports, of which recordings are made.
+        if words.style() != Style::Reports && random.percent(5) {
+            wild::cut(random, &mut bytes);
         }
         bytes
     };

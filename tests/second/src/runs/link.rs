@@ -7,6 +7,7 @@ use super::streams::Streams;
 use super::words::{Style, Words};
 use super::{limit, Kind};
 use crate::library::compare::{Bench, Ran};
+use crate::library::layout::ENCODER_BYTES;
 use crate::program::call::{Call, Outcome};
 use crate::random::Random;
 use crate::recording::{Step, ROOM};
@@ -228,7 +229,7 @@ impl Link<'_, '_> {
         let end = call.end();
         let short = self.random.percent(5);
         if short {
-            let length = self.random.below(16_960) as usize;
+            let length = self.random.below(ENCODER_BYTES as u64) as usize;
             self.bench.note(Step::Lend { end, length });
         }
         let outcome = self.bench.call(call)?;

@@ -1,5 +1,5 @@
 //! Bytes as a faulty or hostile peer sends them: near to right ones, so that every rule is reached, then mutated.
-use super::words::Words;
+use super::words::{Style, Words};
 use crate::program::call::Second;
 use crate::program::instructions::STREAMS;
 use crate::program::wire::LARGEST;
@@ -72,7 +72,7 @@ fn put_name(random: &mut Random, out: &mut Vec<u8>, pattern: u8, width: u32, hel
     }
 }
 
-fn put_stream_list(random: &mut Random, out: &mut Vec<u8>) {
+fn put_stream_list(random: &mut Random, out: &mut Vec<u8>, words: &Words) {
     let horizon = match random.below(8) {
         0 => *random.pick(&[63, 64, 65, 255, 4095, 4096, 4097]),
         1 => random.below(STREAMS),
@@ -80,9 +80,13 @@ fn put_stream_list(random: &mut Random, out: &mut Vec<u8>) {
         _ => random.below(8),
     };
     put_integer(random, out, 0, 8, horizon);
-    let count = if random.percent(60) { 0 } else { random.below(18) };
+    let mut count = if random.percent(60) { 0 } else { random.below(18) };
+    // Not in reports, of which recordings are made.
+    if words.style() != Style::Reports && random.percent(4) {
+        count = *random.pick(&[16, 17, 254, 255, 256, 383]);
+    }
     put_integer(random, out, 0, 8, count);
-    for _ in 0..count {
+    for _ in 0..count.min(20) {
         let delta = match random.below(12) {
             0 => *random.pick(&[0, 64, 254, 255, 256, 4095]),
             _ => random.between(1, 9),
@@ -104,8 +108,8 @@ pub fn instruction(random: &mut Random, held: &[u64], words: &Words) -> Vec<u8> 
     } else if kind < 98 {
         let index = index(random, held);
         put_integer(random, &mut out, 0, 6, index);
-        put_stream_list(random, &mut out);
-        put_stream_list(random, &mut out);
+        put_stream_list(random, &mut out, words);
+        put_stream_list(random, &mut out, words);
     } else {
         out = acknowledgement(random, held);
     }
@@ -199,4 +203,11 @@ pub fn mutate(random: &mut Random, bytes: &mut Vec<u8>) {
         }
         _ => (),
     }
+}
+
+/// Cuts directly behind a byte that says of a number or a length that more of it follows, or somewhere near the front.
+pub fn cut(random: &mut Random, bytes: &mut Vec<u8>) {
+    let open: Vec<usize> = (0..bytes.len()).filter(|&at| matches!(bytes[at], 0x3f | 0x7f..)).take(20).collect();
+    let length = if open.is_empty() || random.percent(30) { random.below(12) as usize } else { *random.pick(&open) + 1 };
+    bytes.truncate(length);
 }

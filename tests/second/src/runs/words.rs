@@ -13,9 +13,11 @@ pub enum Style {
     Tiny,
     /// Any bytes, lengths at the edges.
     Long,
+    /// Texts of every length that differ in one byte or by one, static ones among them: what a comparison must tell apart.
+    Near,
 }
 
-pub const STYLES: [(Style, u64); 3] = [(Style::Reports, 6), (Style::Tiny, 3), (Style::Long, 2)];
+pub const STYLES: [(Style, u64); 4] = [(Style::Reports, 5), (Style::Tiny, 3), (Style::Long, 2), (Style::Near, 5)];
 
 const REPORT_NAMES: [&str; 14] =
     ["turns", "counter", "machine", "pin", "boom", "hours", "yard", "oil", "tilt", "load", "date", "server", "via", "t"];
@@ -38,6 +40,10 @@ impl Words {
         words
     }
 
+    pub fn style(&self) -> Style {
+        self.style
+    }
+
     /// A field made up now.
     fn fresh(&self, random: &mut Random) -> Field {
         let never = random.percent(12);
@@ -57,6 +63,10 @@ impl Words {
                 let length = *random.pick(&NAME_LENGTHS) as usize;
                 random.bytes(length)
             }
+            Style::Near => {
+                let name = random.pick(&statics::ENTRIES).0;
+                near(random, name.as_bytes())
+            }
         }
     }
 
@@ -69,17 +79,34 @@ impl Words {
                 let length = *random.pick(&VALUE_LENGTHS) as usize;
                 random.bytes(length)
             }
+            Style::Near => {
+                let value = random.pick(&statics::ENTRIES).1;
+                near(random, value.as_bytes())
+            }
         }
     }
 
     /// A field of the pool, or one that shares its name, or a new one.
     pub fn field(&self, random: &mut Random) -> Field {
         let mut field = random.pick(&self.pool).clone();
+        if self.style == Style::Near && random.percent(40) {
+            return self.beside(random, field);
+        }
         match random.below(10) {
             0 => field = self.fresh(random),
             1 => field.value = self.value(random),
             2 => field.never = !field.never,
             _ => (),
+        }
+        field
+    }
+
+    /// The field with a byte of its name or its value changed, or one more or one less.
+    fn beside(&self, random: &mut Random, mut field: Field) -> Field {
+        if random.percent(50) {
+            field.name = near(random, &field.name);
+        } else {
+            field.value = near(random, &field.value);
         }
         field
     }
@@ -95,4 +122,22 @@ impl Words {
         }
         list
     }
+}
+
+/// A text that is the same, or differs in one byte, or is one byte shorter or longer, or is some other of up to 40 bytes.
+fn near(random: &mut Random, text: &[u8]) -> Vec<u8> {
+    let mut text = text.to_vec();
+    let at = random.below(text.len() as u64 + 1) as usize;
+    match random.below(6) {
+        0 if at < text.len() => text[at] ^= 1 << random.below(8),
+        1 => text.truncate(text.len().saturating_sub(1)),
+        2 => text.push(random.next() as u8),
+        3 => {
+            let most = *random.pick(&[1, 10, 40]);
+            text = vec![b'k'; random.below(most) as usize];
+        }
+        _ => (),
+    }
+    text.truncate(60);
+    text
 }

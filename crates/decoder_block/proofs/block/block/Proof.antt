@@ -1,19 +1,17 @@
 -- `block` meets its contract: the refusals in their order, and then what the block gives.
 use denote.Ref.{now}
 use native.Mathlib.Omega.{arith}
-use mathlib.Core.Path.{_≡_, refl, sym, ap, _∙_}
+use mathlib.Core.Path.{_≡_, refl, sym, _∙_}
 use mathlib.Core.Bool.{true}
-use borrow.Author.Needs.{needs}
 use borrow.Author.Tests.{not-true, not-false}
-use Rattle.integers.specs.Answers.{refusal}
-use Rattle.blocks.proofs.Told.{block-read}
 use Rattle.model.specs.Parts.{partOf}
 use Rattle.state.specs.DecoderState.{decoderOf}
 use Rattle.state.specs.Forms.{formsDecoder}
 use Rattle.parts.specs.Turn.{partTurn}
-use Rattle.decoder_fields.specs.Measure.{Stands}
-use Rattle.decoder_fields.proofs.Entries.{changes}
-use Rattle.decoder_block.proofs.Calls.{leaves, read-refused, no-state, out-of-turn, not-read}
+use Rattle.decoder_survey.specs.Measure.{Stands}
+use Rattle.decoder_survey.proofs.Entries.{changes}
+use Rattle.decoder_block.proofs.Calls.{leaves, no-state, out-of-turn}
+use borrow.Author.Needs.{needs}
 use Rattle.decoder_block.proofs.block.block.Statement.{statement}
 use Rattle.decoder_block.proofs.block.block.Tie as tie
 
@@ -23,8 +21,7 @@ forms c = sym (c .before .forms-decoder .ensures) ∙ not-false _ (c .if1 .left)
 stands : (c : tie.Else1) → Stands (now (c .before .before .before .before .before .before .args .m))
 stands c = record { small = λ k. omega (arith, c .before .before .before .before .before .slice-known .given k); forms = forms c; state = refl }
 
-turn : (c : tie.Else2) → let a = c .before .before .before .before .before .before .before .before .before .args in
-    partTurn (decoderOf (now (a .m)) .finished) (a .stream) (partOf (a .part)) ≡ true
+turn : (c : tie.Else2) → let a = c .before .before .before .before .before .before .before .before .before .args in partTurn (decoderOf (now (a .m)) .finished) (a .stream) (partOf (a .part)) ≡ true
 unfolding decoderOf
 turn c = sym (c .before .in-turn .ensures) ∙ not-false _ (c .if2 .left)
 
@@ -57,36 +54,17 @@ returns-2 c =
     let e = sym (c .before .before .in-turn .ensures) ∙ not-true _ (c .before .if2 .taken) in
     leaves (out-of-turn _ _ _ _ _ (forms (c .before .before .before .before)) e) (c .refused2 .ensures) refl refl
 
-check-block-requires : tie.Need-check-block-requires
-check-block-requires c κs = search needs
-
-refused-requires-3 : tie.Need-refused-requires-3
-refused-requires-3 c κs = search needs
+give-requires : tie.Need-give-requires
+give-requires c κs = (stands (c .before .before .before .before .before), turn (c .before .before))
 
 same-length-3 : tie.Need-same-length-3
 same-length-3 c = search needs
 
-returns-3 : tie.Need-returns-3
-returns-3 c =
-    let test = c .before .before .before in
-    let d = c .before .before .check-block .ensures in
-    let e = read-refused _ (λ z. c .before .if3 .taken (d ∙ z)) in
-    leaves (not-read _ _ _ _ _ (forms (test .before .before .before)) (turn test) _ e) (c .refused3 .ensures ∙ ap refusal d) refl refl
-
-give-requires : tie.Need-give-requires
-give-requires c κs =
-    let test = c .before .before .before .before in
-    let e = sym (c .before .before .before .check-block .ensures) ∙ c .before .before .if3 .left in
-    ((stands (test .before .before .before), turn test), block-read _ e)
-
 same-length-4 : tie.Need-same-length-4
 same-length-4 c = search needs
 
-same-length-5 : tie.Need-same-length-5
-same-length-5 c = search needs
-
-returns-4 : tie.Need-returns-4
-returns-4 c = search needs
+returns-3 : tie.Need-returns-3
+returns-3 c = search needs
 
 pub block-spec : {M : Type 1} → statement M
 block-spec =
@@ -100,11 +78,7 @@ block-spec =
     refused-requires-2
     same-length-2
     returns-2
-    check-block-requires
-    refused-requires-3
-    same-length-3
-    returns-3
     give-requires
+    same-length-3
     same-length-4
-    same-length-5
-    returns-4)
+    returns-3)

@@ -5,7 +5,7 @@ use lib.ListN.{length-set}
 use borrow.Author.Needs.{needs}
 use Rattle.fields.specs.Form.{Field}
 use Rattle.fields.proofs.Sizes.{fieldForm-split, field-written}
-use Rattle.decoder_fields.specs.Measure.{literalAt}
+use Rattle.decoder_survey.specs.Measure.{literalAt}
 use Rattle.decoder_fields.proofs.write.write_literal.Statement.{statement}
 use Rattle.decoder_fields.proofs.write.write_literal.Tie as tie
 

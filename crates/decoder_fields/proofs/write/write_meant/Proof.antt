@@ -11,8 +11,8 @@ use Rattle.blocks.specs.Reading.{InBytes}
 use Rattle.blocks.specs.Meaning.{fieldMeaning}
 use Rattle.blocks.specs.declared.read.RepresentationPlace.{RepresentationPlace}
 use Rattle.blocks.specs.declared.read.RepresentationPlace.the-variants.{Literal}
-use Rattle.decoder_fields.specs.Measure.{fieldOf, fieldAt, IsField, fieldBytes}
-use Rattle.decoder_fields.proofs.Fields.{literal-by}
+use Rattle.decoder_survey.specs.Measure.{fieldOf, fieldAt, IsField, fieldBytes}
+use Rattle.decoder_survey.proofs.Fields.{literal-by}
 use Rattle.decoder_fields.proofs.write.write_meant.Statement.{statement}
 use Rattle.decoder_fields.proofs.write.write_meant.Tie as tie
 

@@ -1,114 +1,85 @@
--- `give` meets its contract: each refusal is that of the call, and else the output has the block, memory its references and its part marked as written.
--- a count of at most 16,384 is the block's length
+-- `give` meets its contract: a refusal is that of the room, and else the output has the block, memory its references and its part marked as written.
 use denote.Ref.{now}
-use mathlib.Core.Path.{_≡_}
+use Prim.Native.Nat.{_≤_}
+use mathlib.Core.Path.{_≡_, ap}
 use native.Mathlib.Omega.{arith}
 use lib.ListN.{length}
+use Rattle.memory.specs.Bytes.{overlay}
 use Rattle.blocks.specs.Representation.{blockWire}
 use Rattle.encoder_fields.specs.Measure.{representationsOf}
-use Rattle.encoder_fields.proofs.Fields.{counted-is, counted-above}
-use Rattle.encoder_block.proofs.Giving.{tells-refused, Ready, Written, its-turn, long-memory, too-long, no-room}
-use Rattle.encoder_block.proofs.Giving.{front-length, front-reads, front-held, refers-length, gives}
+use Rattle.encoder_fields.specs.Refer.{entered}
+use Rattle.encoder_block.proofs.Giving.{tells-kept, Ready, its-turn, long-memory, not-fitting, fitting, still-forms, still-room, still-passed}
+use Rattle.encoder_block.proofs.Giving.{refers-length, gives}
 use borrow.Author.Needs.{needs}
 use Rattle.encoder_block.proofs.block.give.Statement.{statement}
 use Rattle.encoder_block.proofs.block.give.Tie as tie
 
-abbrev start : tie.After-measure → tie.Start
-start c = c .before .before .before .before .before .before .before
+abbrev start : tie.After-slice-known2 → tie.Start
+start c = c .before .before .before
 
-ready : (c : tie.After-measure) → Ready (now (start c .args .m)) (start c .args .stream) (start c .args .part) (now (start c .args .s))
+ready : (c : tie.After-slice-known2) → Ready (now (start c .args .m)) (start c .args .stream) (start c .args .part) (now (start c .args .s))
 ready c = record {
-  small = λ k. omega (arith, c .before .before .before .before .before .before .slice-known .given k);
-  bytes = λ k. omega (arith, c .before .before .before .before .before .shared-slice-known .given k);
+  small = λ k. omega (arith, c .before .before .slice-known .given k);
   forms = start c .pre .0 .0;
   turn = start c .pre .0 .1;
   fields = start c .pre .1 .0;
   read = start c .pre .1 .1;
 }
 
-sized : (c : tie.Else1) → c .before .measure .result ≡ length (blockWire (representationsOf (now (start (c .before) .args .m)) (now (start (c .before) .args .s))))
-sized c = counted-is _ _ (c .before .measure .ensures) (c .if1 .left)
+room : (c : tie.Else1)
+    → let a = start (c .before .before .before .before .before .before .before .before) .args in
+    (length (blockWire (representationsOf (now (a .m)) (now (a .s)))) ≤ 16384) × (length (blockWire (representationsOf (now (a .m)) (now (a .s)))) ≤ length (now (a .out)))
+room c = fitting (ready (c .before .before .before .before .before .before .before .before)) (now (start (c .before .before .before .before .before .before .before .before) .args .out)) _ (c .before .before .before .before .before .room-answer .ensures .0) (c .if1 .left)
 
-abbrev measured : tie.After-slice-known3 → tie.After-measure
-measured c = c .before .before .before .before .before .before .before .before
+-- what the writing pass leaves, by the memory and the output at the start
+passed : (c : tie.After-write-list)
+    → let a = start (c .before .before .before .before .before .before .before .before .before .before .before) .args in
+    let rs = representationsOf (now (a .m)) (now (a .s)) in
+    (c .write-list .result ≡ length (blockWire rs))
+    × ((c .write-list .last .0 ≡ entered (now (a .m)) (a .stream) (a .part) rs) × (c .write-list .last .1 .1 .1 .1 .0 ≡ overlay (now (a .out)) 0 (blockWire rs)))
+passed c =
+    let kept = c .before .before .before .before .before .before .before .before .room-answer .ensures .1 in
+    still-passed (ready (c .before .before .before .before .before .before .before .before .before .before .before)) (now (start (c .before .before .before .before .before .before .before .before .before .before .before) .args .out)) _ _ (kept .0) (kept .1) (room (c .before .before .before) .0) _ _ _ (c .write-list .ensures)
 
-written : (c : tie.After-slice-known3)
-    → Written (now (start (measured c) .args .m)) (now (start (measured c) .args .s)) (now (start (measured c) .args .out)) (measured c .measure .result)
-    (c .before .before .write-block .last .1 .1 .1 .0)
-written c =
-    let room = c .before .before .before .before .before .before in
-    let short = room .before in
-    record { short = short .if1 .left; room = room .if2 .left; is = sized short; over = c .before .before .write-block .ensures }
+cast-t9 : tie.Need-cast-t9
+cast-t9 c = omega (arith, its-turn (ready c) .below)
 
-static-text-requires : tie.Need-static-text-requires
-static-text-requires c κs = search needs
-
-slice-aggregate-measure : tie.Need-slice-aggregate-measure
-slice-aggregate-measure c = search needs
-
-measure-requires : tie.Need-measure-requires
-measure-requires c κs = search needs
+room-answer-requires : tie.Need-room-answer-requires
+room-answer-requires c κs = ((start (c .before .before) .pre .0 .0, its-turn (ready (c .before .before)) .below), start (c .before .before) .pre .1)
 
 refused-requires : tie.Need-refused-requires
 refused-requires c κs = search needs
 
 same-length : tie.Need-same-length
-same-length c = search needs
+same-length c = ap length (c .before .before .before .before .before .before .room-answer .ensures .1 .0)
+
+same-length-2 : tie.Need-same-length-2
+same-length-2 c = ap length (c .before .before .before .before .before .before .room-answer .ensures .1 .1)
 
 returns : tie.Need-returns
 returns c =
-    let m = c .before .before in
-    let above = counted-above _ _ (m .measure .ensures) (c .before .if1 .taken) in
-    tells-refused _ _ _ 13 (too-long (ready m) (now (start m .args .out)) above) _ (c .refused .ensures)
+    let r = c .before .before .before .before .before .before .room-answer .ensures in
+    tells-kept _ _ _ _ (not-fitting (ready (c .before .before .before .before .before .before .before .before .before)) (now (start (c .before .before .before .before .before .before .before .before .before) .args .out)) _ (r .0) (c .before .if1 .taken)) _ (c .refused .ensures) _ _ (r .1 .0) (r .1 .1)
 
-refused-requires-2 : tie.Need-refused-requires-2
-refused-requires-2 c κs = search needs
-
-same-length-2 : tie.Need-same-length-2
-same-length-2 c = search needs
-
-returns-2 : tie.Need-returns-2
-returns-2 c =
-    let m = c .before .before .before in
-    let e = sized (c .before .before) in
-    let refused = no-room (ready m) (now (start m .args .out)) (omega (arith, e, c .before .before .if1 .left)) (omega (arith, e, c .before .if2 .taken)) in
-    tells-refused _ _ _ 12 refused _ (c .refused2 .ensures)
-
-slice-aggregate-write-block : tie.Need-slice-aggregate-write-block
-slice-aggregate-write-block c = search needs
-
-write-block-requires : tie.Need-write-block-requires
-write-block-requires c κs =
-    let room = c .before .before .before in
-    let m = room .before .before in
-    ((m .before .before .before .static-text .ensures, start m .pre .0 .0), (start m .pre .1, omega (arith, sized (room .before), room .if2 .left)))
-
-cast-t23 : tie.Need-cast-t23
-cast-t23 c = omega (arith, its-turn (ready (measured c)) .below)
-
-slice-reshare-prefix-refer-block : tie.Need-slice-reshare-prefix-refer-block
-slice-reshare-prefix-refer-block c = search needs
-
-slice-aggregate-refer-block : tie.Need-slice-aggregate-refer-block
-slice-aggregate-refer-block c = front-length (ready (measured (c .before .before))) _ _ _ (written (c .before .before))
-
-refer-block-requires : tie.Need-refer-block-requires
-refer-block-requires c κs =
-    let r = ready (measured (c .before .before)) in
-    let w = written (c .before .before) in
-    ((its-turn r .below, r .forms), ((_, front-reads r _ _ _ w), front-held r _ _ _ w))
+write-list-requires : tie.Need-write-list-requires
+write-list-requires c κs =
+    let r = ready (c .before .before .before .before .before .before .before .before .before .before) in
+    let out = now (start (c .before .before .before .before .before .before .before .before .before .before) .args .out) in
+    let kept = c .before .before .before .before .before .before .before .room-answer .ensures .1 in
+    ((still-forms r out _ _ (kept .0) (kept .1), its-turn r .below), (start (c .before .before .before .before .before .before .before .before .before .before) .pre .1, λ e. still-room r out _ _ (kept .0) (kept .1) (room (c .before .before))))
 
 marks-place-requires : tie.Need-marks-place-requires
-marks-place-requires c κs = its-turn (ready (measured (c .before .before .before .before .before .before))) .low
+marks-place-requires c κs = its-turn (ready (c .before .before .before .before .before .before .before .before .before .before .before .before .before .before .before .before)) .low
 
 clear-requires : tie.Need-clear-requires
 clear-requires c κs =
-    let r = ready (measured (c .before .before .before .before .before .before .before)) in
-    let same = refers-length r _ _ _ (written (c .before .before .before .before .before .before .before)) _ (c .before .before .before .before .refer-block .ensures) in
+    let r = ready (c .before .before .before .before .before .before .before .before .before .before .before .before .before .before .before .before .before) in
+    let fits = room (c .before .before .before .before .before .before .before .before .before) in
+    let same = refers-length r (now (start (c .before .before .before .before .before .before .before .before .before .before .before .before .before .before .before .before .before) .args .out)) (fits .0) (fits .1) _ (passed (c .before .before .before .before .before .before) .1 .0) in
     (its-turn r .below, omega (arith, c .marks-place .ensures, its-turn r .low, long-memory r, same))
 
 cast-done : tie.Need-cast-done
-cast-done c = search needs
+cast-done c = omega (arith, passed (c .before .before .before .before .before .before .before .before .before) .0, room (c .before .before .before .before .before .before .before .before .before .before .before .before) .0)
 
 done-requires : tie.Need-done-requires
 done-requires c κs = search needs
@@ -119,37 +90,28 @@ same-length-3 c = search needs
 same-length-4 : tie.Need-same-length-4
 same-length-4 c = search needs
 
-returns-3 : tie.Need-returns-3
-returns-3 c =
-    let refers = c .before .before .before .before .before .before .before .before in
-    let w = refers .before .before .before in
-    let m = measured w in
-    gives (ready m) (now (start m .args .out)) _ _ (written w) _ (refers .refer-block .ensures) _ _ _ (c .done .ensures)
-    (c .before .before .before .before .marks-place .ensures) (c .before .before .before .clear .ensures)
+returns-2 : tie.Need-returns-2
+returns-2 c =
+    let w = passed (c .before .before .before .before .before .before .before .before .before .before) in
+    let fits = room (c .before .before .before .before .before .before .before .before .before .before .before .before .before) in
+    gives (ready (c .before .before .before .before .before .before .before .before .before .before .before .before .before .before .before .before .before .before .before .before .before)) (now (start (c .before .before .before .before .before .before .before .before .before .before .before .before .before .before .before .before .before .before .before .before .before) .args .out)) (fits .0) (fits .1) _ (w .1 .0) _ (w .0) _ _ _ _ (c .done .ensures) (c .before .before .before .before .marks-place .ensures)
+    (c .before .before .before .clear .ensures) (w .1 .1)
 
 pub give-spec : {M : Type 1} → statement M
 give-spec =
     tie.close
     (tie.spec
-    static-text-requires
-    slice-aggregate-measure
-    measure-requires
+    cast-t9
+    room-answer-requires
     refused-requires
     same-length
-    returns
-    refused-requires-2
     same-length-2
-    returns-2
-    slice-aggregate-write-block
-    write-block-requires
-    cast-t23
-    slice-reshare-prefix-refer-block
-    slice-aggregate-refer-block
-    refer-block-requires
+    returns
+    write-list-requires
     marks-place-requires
     clear-requires
     cast-done
     done-requires
     same-length-3
     same-length-4
-    returns-3)
+    returns-2)

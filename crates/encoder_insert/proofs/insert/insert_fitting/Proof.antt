@@ -25,7 +25,7 @@ small c k = omega (arith, c .slice-known .given k)
 -- the place found is one of the table's
 place-low : (c : tie.After-lowest-vacant) → c .lowest-vacant .result < 128
 place-low c =
-    let s = c .before .before .before .before .before .before .before .before .before in
+    let s = c .before .before .before .before .before .before .before in
     let a = s .before .args in
     omega (
       arith,
@@ -45,14 +45,14 @@ few c = let f = c .before .pre .1 .few in omega arith
 
 -- the name chosen is the model's, by index or by bytes
 abbrev by-index-start : tie.After-known-told → tie.Start
-by-index-start c = c .before .before .before .before .before .before .before .before .before .before .before .before .before
+by-index-start c = c .before .before .before .before .before .before .before .before .before .before .before
 
 by-index : (c : tie.After-known-told)
     → indexed (c .before .choice .given .0 .0 .value) ≡ chooseName (encoderOf (by-index-start c .args .m .now) .entries) (by-index-start c .args .name .now)
 by-index c = sym (ap (chosenName (by-index-start c .args .name .now)) (c .before .choice .given .1)) ∙ c .before .before .before .before .before .choose-name .ensures
 
 abbrev by-bytes-start : tie.After-enum-told → tie.Start
-by-bytes-start c = c .before .before .before .before .before .before .before .before .before .before .before .before
+by-bytes-start c = c .before .before .before .before .before .before .before .before .before .before
 
 by-bytes : (c : tie.After-enum-told)
     → literal (by-bytes-start c .args .name .now) ≡ chooseName (encoderOf (by-bytes-start c .args .m .now) .entries) (by-bytes-start c .args .name .now)
@@ -73,23 +73,17 @@ text-size c =
     let a = by-bytes-start (c .before) .args in
     c .insert-text-size .ensures .0 ∙ sym (insert-text-size _ (a .name .now) (a .value .now))
 
-static-text-requires : tie.Need-static-text-requires
-static-text-requires c κs = search needs
-
-slice-aggregate-choose-name : tie.Need-slice-aggregate-choose-name
-slice-aggregate-choose-name c = search needs
-
 choose-name-requires : tie.Need-choose-name-requires
 choose-name-requires c κs = search needs
 
 lowest-vacant-requires : tie.Need-lowest-vacant-requires
-lowest-vacant-requires c κs = let s = c .before .before .before .before .before .before .before .before in changes _ (small s) (s .before .pre .0) .ordered
+lowest-vacant-requires c κs = let s = c .before .before .before .before .before .before in changes _ (small s) (s .before .pre .0) .ordered
 
-cast-t19 : tie.Need-cast-t19
-cast-t19 c = omega (arith, place-low c)
+cast-t15 : tie.Need-cast-t15
+cast-t15 c = omega (arith, place-low c)
 
-add-t20 : tie.Need-add-t20
-add-t20 c = omega (arith, place-low c)
+add-t16 : tie.Need-add-t16
+add-t16 c = omega (arith, place-low c)
 
 enum-known-choice : tie.Need-enum-known-choice
 enum-known-choice c = search needs
@@ -107,7 +101,7 @@ returns : tie.Need-returns
 returns c =
     let f = c .before .before .before .before .before .before in
     let v = f .lowest-vacant in
-    let s = f .before .before .before .before .before .before .before .before .before in
+    let s = f .before .before .before .before .before .before .before in
     let a = s .before .args in
     let e = fitting-short (a .m .now) (small s) (s .before .pre .0) (a .name .now) (a .value .now) (a .out .now) (v .result) (62 + v .result) (v .ensures) refl
     _ (by-index (c .before .before .before)) _ (index-size (c .before .before)) (c .before .if1 .taken) in
@@ -117,7 +111,7 @@ write-insert-index-requires : tie.Need-write-insert-index-requires
 write-insert-index-requires c κs =
     let f = c .before .before .before .before .before .before in
     let low = place-low f in
-    let s = f .before .before .before .before .before .before .before .before .before in
+    let s = f .before .before .before .before .before .before .before in
     let j = choice-sayable _ (small s) (s .before .pre .0) _ _ (by-index (c .before .before .before)) in (
       ((omega arith, omega arith), (j .0, omega (arith, j .1)), s .before .pre .1 .value-short),
       omega (arith, index-size (c .before .before), c .before .if1 .left),
@@ -126,7 +120,7 @@ write-insert-index-requires c κs =
 enter-requires : tie.Need-enter-requires
 enter-requires c κs =
     let f = c .before .before .before .before .before .before .before .before .before .before in
-    let s = f .before .before .before .before .before .before .before .before .before in
+    let s = f .before .before .before .before .before .before .before in
     ((f .lowest-vacant .ensures, refl, s .before .pre .0), (held s, few s))
 
 cast-done : tie.Need-cast-done
@@ -151,7 +145,7 @@ returns-2 : tie.Need-returns-2
 returns-2 c =
     let f = c .before .before .before .before .before in
     let v = f .lowest-vacant in
-    let s = f .before .before .before .before .before .before .before .before .before in
+    let s = f .before .before .before .before .before .before .before in
     let a = s .before .args in
     let e = fitting-short (a .m .now) (small s) (s .before .pre .0) (a .name .now) (a .value .now) (a .out .now) (v .result) (62 + v .result) (v .ensures) refl
     _ (by-bytes (c .before .before .before)) _ (text-size (c .before .before)) (c .before .if2 .taken) in
@@ -159,14 +153,14 @@ returns-2 c =
 
 write-insert-text-requires : tie.Need-write-insert-text-requires
 write-insert-text-requires c κs =
-    let f = c .before .before .before .before .before .before .before .before .before .before .before .before .before .before .before .pre .1 in
+    let f = c .before .before .before .before .before .before .before .before .before .before .before .before .before .pre .1 in
     let low = place-low (c .before .before .before .before .before) in
     (((omega arith, omega arith), f .name-short, f .value-short), omega (arith, text-size (c .before .before), c .before .if2 .left))
 
 enter-requires-2 : tie.Need-enter-requires-2
 enter-requires-2 c κs =
     let f = c .before .before .before .before .before .before .before .before .before in
-    let s = f .before .before .before .before .before .before .before .before .before in
+    let s = f .before .before .before .before .before .before .before in
     ((f .lowest-vacant .ensures, refl, s .before .pre .0), (held s, few s))
 
 cast-done-2 : tie.Need-cast-done-2
@@ -187,7 +181,7 @@ returns-3 c =
     let t = w .before .before in
     let f = t .before .before .before .before .before in
     let v = f .lowest-vacant in
-    let s = f .before .before .before .before .before .before .before .before .before in
+    let s = f .before .before .before .before .before .before .before in
     let a = s .before .args in
     let e = fitting-done (a .m .now) (small s) (s .before .pre .0) (a .name .now) (a .value .now) (a .out .now) (v .result) (62 + v .result) (v .ensures) refl
     _ (by-index (t .before .before)) _ (index-size (t .before)) (t .if1 .left) (held s) (few s) in
@@ -205,7 +199,7 @@ returns-4 c =
     let t = w .before .before in
     let f = t .before .before .before .before in
     let v = f .lowest-vacant in
-    let s = f .before .before .before .before .before .before .before .before .before in
+    let s = f .before .before .before .before .before .before .before in
     let a = s .before .args in
     let e = fitting-done (a .m .now) (small s) (s .before .pre .0) (a .name .now) (a .value .now) (a .out .now) (v .result) (62 + v .result) (v .ensures) refl
     _ (by-bytes (t .before .before)) _ (text-size (t .before)) (t .if2 .left) (held s) (few s) in
@@ -215,12 +209,10 @@ pub insert-fitting-spec : {M : Type 1} → statement M
 insert-fitting-spec =
     tie.close
     (tie.spec
-    static-text-requires
-    slice-aggregate-choose-name
     choose-name-requires
     lowest-vacant-requires
-    cast-t19
-    add-t20
+    cast-t15
+    add-t16
     enum-known-choice
     insert-index-size-requires
     refused-requires

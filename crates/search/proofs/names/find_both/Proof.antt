@@ -1,20 +1,19 @@
+-- `search::names::find_both` meets its contract. The loop's invariant: the answer is that of the rows that are left.
 use Prim.Native.Nat.{_-_, _≤_}
-use mathlib.Core.Path.{_≡_, sym, _∙_}
+use mathlib.Core.Path.{_≡_, refl, sym, _∙_}
 use native.Mathlib.Omega.{arith}
 use Rattle.state.specs.Layout.{countOf}
 use Rattle.search.specs.Search.{servesBothAt, lowestRow}
-use Rattle.search.proofs.Walking.{row-start, row-more, row-here, row-done}
+use Rattle.search.proofs.Walking.{row-more, row-here, row-done}
 use Rattle.search.proofs.names.find_both.Statement.{statement}
 use Rattle.search.proofs.names.find_both.Tie as tie
 
--- `search::names::find_both` meets its contract. The loop's invariant: the answer is that of the rows that are left.
-
 abbrev Inv-loop : tie.InvT-loop
-Inv-loop m name value count lengths i₀ i =
-    (i ≤ countOf m) × (lowestRow (servesBothAt m name value) (countOf m) 0 ≡ lowestRow (servesBothAt m name value) (countOf m - i) i)
+Inv-loop m name value from count i₀ i =
+    (i ≤ countOf m) × (lowestRow (servesBothAt m name value) (countOf m - from) from ≡ lowestRow (servesBothAt m name value) (countOf m - i) i)
 
 abbrev μ-loop : tie.MeasureT-loop
-μ-loop m name value count lengths i₀ i = countOf m - i
+μ-loop m name value from count i₀ i = countOf m - i
 
 u16-at-requires : tie.Need-u16-at-requires Inv-loop μ-loop
 u16-at-requires c κs = omega (arith, c .before .before .before .pre .0 .long)
@@ -22,17 +21,11 @@ u16-at-requires c κs = omega (arith, c .before .before .before .pre .0 .long)
 cast-count : tie.Need-cast-count Inv-loop μ-loop
 cast-count c = omega arith
 
-mul-lengths : tie.Need-mul-lengths Inv-loop μ-loop
-mul-lengths c = omega arith
-
-add-lengths : tie.Need-add-lengths Inv-loop μ-loop
-add-lengths c = omega arith
-
 loop-holds : tie.Need-loop-holds Inv-loop μ-loop
-loop-holds c = (omega arith, row-start _ _)
+loop-holds c = (c .before .before .before .before .pre .1, refl)
 
 has-both-requires : tie.Need-has-both-requires Inv-loop μ-loop
-has-both-requires c κs = let p = c .before .before .before .before .before .before .pre in ((omega arith, p .0), (p .1 .0, p .1 .1, omega arith))
+has-both-requires c κs = (omega arith, c .before .before .before .before .before .before .pre .0)
 
 returns : tie.Need-returns Inv-loop μ-loop
 returns c = sym (c .before .before .before .loop .inv .1 ∙ row-here _ _ _ (omega arith) (sym (c .before .has-both .ensures) ∙ c .if1 .taken))
@@ -57,8 +50,6 @@ find-both-spec =
     μ-loop
     u16-at-requires
     cast-count
-    mul-lengths
-    add-lengths
     loop-holds
     has-both-requires
     returns

@@ -1,56 +1,47 @@
--- `statics::search::find_name` meets its contract. The loop's invariant: what is sought is the lowest index from `i` on.
-use mathlib.Core.Path.{_≡_, refl, sym, _∙_}
-use Prim.Native.Nat.{_-_, _≤_}
-use native.Mathlib.Omega.{arith}
-use Rattle.statics.specs.Search.{lowestName, findName}
-use Rattle.statics.proofs.Finding.{turn-here, turn-next, turn-done}
+-- `statics::search::find_name` meets its contract: the hash leaves one entry, and that one is compared.
+use denote.Ref.{now}
+use Prim.Native.Nat.{ℕ, _≤_}
+use mathlib.Core.Path.{_≡_, ap, sym, subst, _∙_}
+use borrow.Author.Tests.{not-true, not-false}
+use Rattle.statics.specs.Hash.{hashOf, hashedOf}
+use Rattle.statics.proofs.Hashing.{hash-empty, hash-other, hash-found, hash-within}
+use borrow.Author.Needs.{needs}
 use Rattle.statics.proofs.search.find_name.Statement.{statement}
 use Rattle.statics.proofs.search.find_name.Tie as tie
 
-abbrev Inv-loop : tie.InvT-loop
-Inv-loop text name i₀ i = (1 ≤ i) × (i ≤ 62) × (findName name ≡ lowestName (62 - i) i name)
+hashed : (c : tie.After-hashed-entry) → c .hashed-entry .result ≡ hashedOf (hashOf (now (c .before .before .before .before .args .name)))
+hashed c = c .hashed-entry .ensures ∙ ap hashedOf (c .before .name-hash .ensures)
 
-abbrev μ-loop : tie.MeasureT-loop
-μ-loop text name i₀ i = 62 - i
+within : (c : tie.After-hashed-entry) → (1 ≤ c .hashed-entry .result) × (c .hashed-entry .result ≤ 61)
+within c = subst (λ (i : ℕ). (1 ≤ i) × (i ≤ 61)) (sym (c .hashed-entry .ensures)) (hash-within (c .before .name-hash .result))
 
-loop-holds : tie.Need-loop-holds Inv-loop μ-loop
-loop-holds c = (omega arith, omega arith, refl)
+returns : tie.Need-returns
+returns c = hash-empty _ (c .if1 .taken)
 
-has-name-requires : tie.Need-has-name-requires Inv-loop μ-loop
-has-name-requires c κs = (c .before .before .before .before .pre, (omega arith, omega arith))
+name-hash-requires : tie.Need-name-hash-requires
+name-hash-requires c κs = search needs
 
-returns : tie.Need-returns Inv-loop μ-loop
-unfolding lowestName
-returns c = sym (c .before .before .before .loop .inv .2 ∙ turn-here _ _ (omega arith) (sym (c .before .has-name .ensures) ∙ c .if1 .taken))
+hashed-entry-requires : tie.Need-hashed-entry-requires
+hashed-entry-requires c κs = search needs
 
-add-i : tie.Need-add-i Inv-loop μ-loop
-add-i c = omega arith
+has-name-requires : tie.Need-has-name-requires
+has-name-requires c κs = within c
 
-loop-less : tie.Need-loop-less Inv-loop μ-loop
-loop-less c = omega arith
+returns-2 : tie.Need-returns-2
+returns-2 c = hash-other _ _ (hashed (c .before .before)) (sym (c .before .has-name .ensures) ∙ not-true _ (c .if2 .taken))
 
-loop-again : tie.Need-loop-again Inv-loop μ-loop
-unfolding lowestName
-loop-again c = (
-  omega arith,
-  omega arith,
-  c .before .before .before .loop .inv .2 ∙ turn-next _ _ (omega arith) (sym (c .before .has-name .ensures) ∙ c .if1 .left),
-)
-
-returns-2 : tie.Need-returns-2 Inv-loop μ-loop
-unfolding lowestName
-returns-2 c = sym (c .before .loop .inv .2 ∙ turn-done _ _ (omega arith))
+returns-3 : tie.Need-returns-3
+returns-3 c =
+    let w = within (c .before .before) in
+    hash-found _ _ (hashed (c .before .before)) (w .0) (w .1) (sym (c .before .has-name .ensures) ∙ not-false _ (c .if2 .left))
 
 pub find-name-spec : {M : Type 1} → statement M
 find-name-spec =
     tie.close
     (tie.spec
-    Inv-loop
-    μ-loop
-    loop-holds
-    has-name-requires
     returns
-    add-i
-    loop-less
-    loop-again
-    returns-2)
+    name-hash-requires
+    hashed-entry-requires
+    has-name-requires
+    returns-2
+    returns-3)

@@ -1,0 +1,55 @@
+// A name or a value compared with the table's text. Most have a few bytes: two words, which may overlap, take them whole.
+ghost use mathlib.Core.Path.{_≡_};
+ghost use Prim.Native.Nat.{ℕ, _+_, _≤_};
+ghost use lib.ListN.{length};
+ghost use Rattle.memory.specs.Compare.{sameAt};
+use memory::compare::same;
+use memory::number::u32_at;
+use memory::number::u64_at;
+
+// Four to eight bytes.
+fn same_fours(m: &[u8], at: usize, b: &[u8]) -> bool
+    requires { ⌜ (4 ≤ length (now b)) × (length (now b) ≤ 8) × (at + length (now b) ≤ length (now m)) ⌝ }
+    ensures { λ r. ⌜ r ≡ sameAt (length (now (b .entry))) (now (m .entry)) at (now (b .entry)) 0 ⌝ }
+{
+    if u32_at(m, at) != u32_at(b, 0) {
+        return false;
+    }
+    let last = b.len() - 4;
+    if u32_at(m, at + last) != u32_at(b, last) {
+        return false;
+    }
+    true
+}
+
+// Eight to sixteen bytes.
+fn same_eights(m: &[u8], at: usize, b: &[u8]) -> bool
+    requires { ⌜ (8 ≤ length (now b)) × (length (now b) ≤ 16) × (at + length (now b) ≤ length (now m)) ⌝ }
+    ensures { λ r. ⌜ r ≡ sameAt (length (now (b .entry))) (now (m .entry)) at (now (b .entry)) 0 ⌝ }
+{
+    if u64_at(m, at) != u64_at(b, 0) {
+        return false;
+    }
+    let last = b.len() - 8;
+    if u64_at(m, at + last) != u64_at(b, last) {
+        return false;
+    }
+    true
+}
+
+// Are the bytes from the place `at` on those of `b`?
+pub fn stands_at(m: &[u8], at: usize, b: &[u8]) -> bool
+    requires { ⌜ at + length (now b) ≤ length (now m) ⌝ }
+    ensures { λ r. ⌜ r ≡ sameAt (length (now (b .entry))) (now (m .entry)) at (now (b .entry)) 0 ⌝ }
+{
+    let n = b.len();
+    if 4 <= n {
+        if n < 8 {
+            return same_fours(m, at, b);
+        }
+        if n <= 16 {
+            return same_eights(m, at, b);
+        }
+    }
+    same(m, at, b, 0, n)
+}
