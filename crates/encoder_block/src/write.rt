@@ -18,8 +18,7 @@ use encoder_fields::choice::choose_field;
 use encoder_fields::measure::choice_size;
 use encoder_fields::write::write_choice;
 use fields::read::FieldPlace;
-use fields::read::FieldRead;
-use fields::read::read_field;
+use fields::read::field_at;
 use integers::answer::NO_ROOM;
 use integers::answer::TOO_LONG;
 use integers::number::StreamNumber;
@@ -70,15 +69,13 @@ pub fn write_list(
     let mut to: usize = 0;
     let mut at: usize = 0;
     while at < s.len() {
-        let r = read_field(s, at);
-        let FieldRead::Found(f, next) = r else {
-            return to;
-        };
+        let f = field_at(s, at);
         to = write_field(m, stream, part, s, f, out, to, write);
         if BLOCK_LIMIT < to {
             return 16_385;
         }
-        at = next;
+        let value = f.value;
+        at = value.start + value.length;
     }
     to
 }

@@ -11,7 +11,6 @@ use Rattle.wire.specs.Name.{indexed as by-index, literal as by-bytes}
 use Rattle.statics.specs.Search.{findName, findBoth}
 use Rattle.statics.specs.declared.search.StaticFound.{StaticFound}
 use Rattle.statics.specs.declared.search.StaticFound.the-variants.{At, Nothing as NotStatic}
-use Rattle.statics.proofs.Finding.{name-found, start-nothing}
 use Rattle.integers.specs.declared.number.TableIndex.{TableIndex}
 use Rattle.fields.specs.Form.{Field}
 use Rattle.blocks.specs.Representation.{indexed, literal}
@@ -25,19 +24,8 @@ use Rattle.search.specs.Search.{Ordered, servesAt, servesBothAt, lowestRow}
 use Rattle.search.specs.declared.names.Sought.the-variants.{Row, Nothing}
 use Rattle.changes.specs.EncoderChanges.{EncoderChanges}
 use Rattle.changes.proofs.EncoderClaim.{encoder-claim}
-use Rattle.encoder_fields.specs.Measure.{fieldWith, Chooses, FirstNamed, staticBoth}
+use Rattle.encoder_fields.specs.Measure.{fieldWith, Chooses}
 use Rattle.encoder_fields.specs.declared.choice.Choice.{Choice}
-
--- ---- the static entry with a name
-
-module _ (name : List ℕ) where
-  pub first-named : (o : StaticFound) → findName name ≡ o → FirstNamed o
-  first-named (At j) e = let l = name-found name 61 1 j e in (l .low, omega (arith, l .high), ap findName (l .holds) ∙ e)
-  first-named NotStatic e = tt
-
-  pub static-both : (o : StaticFound) → findName name ≡ o → (value : List ℕ) → findBoth name value ≡ staticBoth o value
-  static-both (At j) e value = ap (λ (n : List ℕ). findBoth n value) (sym (name-found name 61 1 j e .holds))
-  static-both NotStatic e value = start-nothing name value e
 
 -- ---- a literal's name
 

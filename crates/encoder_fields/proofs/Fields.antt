@@ -10,7 +10,7 @@ use Rattle.memory.proofs.Order.{split}
 use Rattle.memory.proofs.Overlay.{length-overlay, overlay-append}
 use Rattle.memory.proofs.Places.{length-part}
 use Rattle.fields.specs.Form.{Field, Fine}
-use Rattle.fields.specs.Reading.{readField, fieldOf, fieldsFrom, readList, ListRead.list}
+use Rattle.fields.specs.Reading.{readField, fieldAnswer, fieldOf, fieldsFrom, readList, ListRead.list}
 use Rattle.fields.specs.declared.read.FieldPlace.{FieldPlace}
 use Rattle.fields.specs.declared.read.FieldRead.{FieldRead}
 use Rattle.fields.specs.declared.read.FieldRead.the-variants.{Found, Refused}
@@ -45,6 +45,13 @@ module _ (s : List ℕ) (at : ℕ) (rest : List Field) (L : Left s at rest) wher
         let w = walk-more s (L .turns) at rest (L .reads) h (L .enough) r e p next d in
         let b = field-good s at r e p next d in
         (w .0, w .1, record { turns = L .turns - 1; enough = omega (arith, L .enough, b .next-after); reads = w .2 })
+
+  -- so one reads well there
+  pub left-reads : at < length s → fieldAnswer (readField s at) .number ≡ 0
+  left-reads h = go (readField s at) refl where
+    go : (r : FieldRead) → r ≡ readField s at → fieldAnswer r .number ≡ 0
+    go (Found p next) e = refl
+    go (Refused number) e = absurd (left-refused h (Refused number) e number refl)
 
 -- ---- a field that was read
 

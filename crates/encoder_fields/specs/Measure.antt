@@ -5,10 +5,6 @@ use mathlib.Core.List.{List, [], map}
 use lib.Dec.{ltb, leb}
 use Rattle.memory.specs.Choice.{pick, need}
 use Rattle.integers.specs.Answers.{too-long, no-room}
-use Rattle.statics.specs.Table.{staticName}
-use Rattle.statics.specs.Search.{findName, findBoth}
-use Rattle.statics.specs.declared.search.StaticFound.{StaticFound}
-use Rattle.statics.specs.declared.search.StaticFound.the-variants.{At, Nothing}
 use Rattle.fields.specs.Form.{Field}
 use Rattle.fields.specs.Reading.{InText, ListRead, list, readList}
 use Rattle.fields.specs.Reading as reading
@@ -40,16 +36,6 @@ fieldWith flag name value = record { flag = flag; name = name; value = value }
 -- it is the one that the encoder chooses, against the table in memory
 abbrev pub Chooses : List ℕ → Field → Choice → Type 0
 Chooses m f choice = chosen f choice ≡ choose (encoderOf m .entries) f
-
--- a static entry that is the lowest with its name
-abbrev pub FirstNamed : StaticFound → Type 0
-FirstNamed (At i) = (1 ≤ i .value) × (i .value ≤ 61) × (findName (staticName (i .value)) ≡ At i)
-FirstNamed Nothing = Unit {0}
-
--- the static entry with this value, and with that name
-abbrev pub staticBoth : StaticFound → List ℕ → StaticFound
-staticBoth (At i) value = findBoth (staticName (i .value)) value
-staticBoth Nothing value = Nothing
 
 -- the fields of a list that reads well
 abbrev pub fieldsIn : ListRead → List Field

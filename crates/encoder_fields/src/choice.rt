@@ -4,14 +4,13 @@ ghost use mathlib.Core.Path.{_≡_};
 ghost use mathlib.Core.Bool.{true};
 ghost use Prim.Native.Nat.{_≤_, _<_};
 ghost use lib.ListN.{length};
-ghost use Rattle.statics.specs.Search.{findName};
 ghost use Rattle.fields.specs.Reading.{InText, textOf, fieldOf};
 ghost use Rattle.blocks.specs.Representation.{literal};
 ghost use Rattle.model.specs.Encoder.{chooseName};
 ghost use Rattle.state.specs.Layout.{indexAt};
 ghost use Rattle.state.specs.EncoderState.{encoderOf};
 ghost use Rattle.state.specs.Forms.{formsEncoder};
-ghost use Rattle.encoder_fields.specs.Measure.{InField, chosen, fieldWith, Chooses, FirstNamed, staticBoth};
+ghost use Rattle.encoder_fields.specs.Measure.{InField, chosen, fieldWith, Chooses};
 use fields::read::FieldPlace;
 use fields::read::TextPlace;
 use integers::number::TableIndex;
@@ -50,14 +49,13 @@ fn index_at(m: &[u8], place: usize) -> TableIndex
     }
 }
 
-// A literal, where `named` is the static entry with the name.
-fn choose_literal(m: &[u8], named: StaticFound, flag: u8, name: &[u8], value: &[u8]) -> Choice
+// A literal.
+fn choose_literal(m: &[u8], flag: u8, name: &[u8], value: &[u8]) -> Choice
     requires { ⌜ formsEncoder (now m) ≡ true ⌝ }
-    requires { ⌜ findName (now name) ≡ named ⌝ }
     ensures { λ r. ⌜ chosen (fieldWith flag (now (name .entry)) (now (value .entry))) r
         ≡ literal flag (chooseName (encoderOf (now (m .entry)) .entries) (now (name .entry))) (now (value .entry)) ⌝ }
 {
-    match named {
+    match statics::search::find_name(name) {
         StaticFound::At(i) => Choice::Named(i),
         StaticFound::Nothing => match search::names::find_name(m, name) {
             Sought::Row(place) => Choice::Named(index_at(m, place)),
@@ -66,32 +64,20 @@ fn choose_literal(m: &[u8], named: StaticFound, flag: u8, name: &[u8], value: &[
     }
 }
 
-// The static entry with this value, and with the name of `named`.
-fn find_static(named: StaticFound, value: &[u8]) -> StaticFound
-    requires { ⌜ FirstNamed named ⌝ }
-    ensures { λ r. ⌜ r ≡ staticBoth named (now (value .entry)) ⌝ }
-{
-    match named {
-        StaticFound::At(i) => statics::search::find_value(i, value),
-        StaticFound::Nothing => StaticFound::Nothing,
-    }
-}
-
-// A field that may be stored, where `named` is the static entry with the name.
-fn choose_stored(m: &[u8], named: StaticFound, name: &[u8], value: &[u8]) -> Choice
+// A field that may be stored. The static name is looked for only where no entry has name and value.
+fn choose_stored(m: &[u8], name: &[u8], value: &[u8]) -> Choice
     requires { ⌜ formsEncoder (now m) ≡ true ⌝ }
-    requires { ⌜ findName (now name) ≡ named ⌝ }
     ensures { λ r. ⌜ Chooses (now (m .entry)) (fieldWith 0 (now (name .entry)) (now (value .entry))) r ⌝ }
 {
-    match find_static(named, value) {
+    match statics::search::find_both(name, value) {
         StaticFound::At(j) => Choice::Indexed(j),
         StaticFound::Nothing => match search::names::find_pair(m, name, value) {
             Paired::Both(place) => Choice::Indexed(index_at(m, place)),
-            Paired::Name(place) => match named {
+            Paired::Name(place) => match statics::search::find_name(name) {
                 StaticFound::At(i) => Choice::Named(i),
                 StaticFound::Nothing => Choice::Named(index_at(m, place)),
             },
-            Paired::Nothing => match named {
+            Paired::Nothing => match statics::search::find_name(name) {
                 StaticFound::At(i) => Choice::Named(i),
                 StaticFound::Nothing => Choice::Literal,
             },
@@ -107,9 +93,8 @@ pub fn choose_field(m: &[u8], s: &[u8], f: FieldPlace) -> Choice
 {
     let name = text_at(s, f.name);
     let value = text_at(s, f.value);
-    let named = statics::search::find_name(name);
     if f.flag == 1 {
-        return choose_literal(m, named, 1, name, value);
+        return choose_literal(m, 1, name, value);
     }
-    choose_stored(m, named, name, value)
+    choose_stored(m, name, value)
 }

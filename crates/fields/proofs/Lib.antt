@@ -5,6 +5,7 @@ pub mod Turns
 pub mod Sizes
 pub mod Inverse
 pub mod Bounds
+pub mod Again
 pub mod Back
 pub mod Forth
 pub mod Lists

@@ -63,6 +63,13 @@ readText s at limit =
     need (leb n (length s - start)) (TextRefused bad-field-list)
     (Text (record { start = start; length = n }) (start + n)))
 
+-- where the text at the place at stands, as its length's one or two bytes say it: for a list where one reads well, nothing is judged
+unfoldable pub textStart : List ℕ → ℕ → TextPlace
+textStart s at =
+    pick (ltb (getD s at 0) 128)
+    (record { start = at + 1; length = getD s at 0 })
+    (record { start = at + 2; length = getD s at 0 % 128 + 128 * getD s (at + 1) 0 })
+
 -- the field at the place at
 unfoldable pub readField : List ℕ → ℕ → FieldRead
 readField s at =

@@ -2,7 +2,7 @@
 ghost use mathlib.Core.Path.{_≡_};
 ghost use Prim.Native.Nat.{ℕ, _+_, _≤_};
 ghost use lib.ListN.{length};
-ghost use Rattle.fields.specs.Reading.{lengthAnswer, textAnswer, fieldAnswer, listAnswer, readLength, readText, readField, readList};
+ghost use Rattle.fields.specs.Reading.{lengthAnswer, textAnswer, fieldAnswer, listAnswer, readLength, readText, textStart, readField, readList, InText};
 use integers::answer::BAD_FIELD_LIST;
 use integers::answer::TOO_LONG;
 use wire::text::NAME_LIMIT;
@@ -144,6 +144,39 @@ pub fn read_field(s: &[u8], at: usize) -> FieldRead
         return FieldRead::Refused(v.number());
     };
     FieldRead::Found(FieldPlace { flag, name, value }, after)
+}
+
+// The place of the text at the place `at` of a list where one reads well: its length is taken as it stands.
+fn text_start(s: &[u8], at: usize) -> TextPlace
+    requires { ⌜ InText (now s) (textStart (now s) at) ⌝ }
+    ensures { λ r. ⌜ r ≡ textStart (now (s .entry)) at ⌝ }
+{
+    let low = wide(s[at]);
+    if low < 128 {
+        return TextPlace {
+            start: at + 1,
+            length: low,
+        };
+    }
+    let high = wide(s[at + 1]);
+    TextPlace {
+        start: at + 2,
+        length: low % 128 + 128 * high,
+    }
+}
+
+// The field at the place `at` of a list where one reads well: nothing is judged again.
+pub fn field_at(s: &[u8], at: usize) -> FieldPlace
+    requires { ⌜ fieldAnswer (readField (now s) at) .number ≡ 0 ⌝ }
+    ensures { λ r. ⌜ readField (now (s .entry)) at ≡ FieldRead.Found r (r .value .start + r .value .length) ⌝ }
+{
+    let name = text_start(s, at + 1);
+    let value = text_start(s, name.start + name.length);
+    FieldPlace {
+        flag: s[at],
+        name,
+        value,
+    }
 }
 
 // The answer to a whole list: 0, or its first refusal.

@@ -6,4 +6,5 @@ pub mod Moving
 pub mod Covering
 pub mod Numbers
 pub mod Sameness
+pub mod Ends
 pub mod Zeros

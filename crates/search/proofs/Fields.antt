@@ -7,11 +7,18 @@ use lib.ListN.{length}
 use Rattle.memory.specs.Bytes.{part}
 use Rattle.memory.specs.Numbers.{number}
 use Rattle.state.specs.Layout.{countOf, rowPlace, offsetAt, nameLengthAt, valueLengthAt}
-use Rattle.search.specs.Search.{Ordered}
+use Rattle.search.specs.Search.{Ordered, RowStands, rowOf}
 
 -- a field of n bytes that stands k bytes into the row
 pub row-field : (n k : ℕ) (m : List ℕ) (i : ℕ) {at v : ℕ} → at ≡ rowPlace i → v ≡ number n m (at + k) → v ≡ number n m (rowPlace i + k)
 row-field n k m i d e = e ∙ ap (λ (a : ℕ). number n m (a + k)) d
+
+-- the row at a place, where it is known
+pub row-of : (i : ℕ) {at : ℕ} → at ≡ rowPlace i → rowOf at ≡ i
+row-of i d = omega arith
+
+pub row-stands : (m : List ℕ) (i : ℕ) {at : ℕ} → at ≡ rowPlace i → i < countOf m → RowStands m at
+row-stands m i d h = record { place = omega arith; held = omega arith }
 
 -- a part by the places where it starts and ends
 pub part-between : (m : List ℕ) (a b n k : ℕ) → a ≡ b → n ≡ k → part m a (a + n - a) ≡ part m b k

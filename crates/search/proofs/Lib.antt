@@ -1,5 +1,5 @@
 -- The laws of `search`: plain values, for the functions' proofs and the crates above.
-pub mod Ends
+pub mod Words
 pub mod Fields
 pub mod Finding
 pub mod Walking

@@ -1,85 +1,129 @@
--- A search by name and value, where that by name is done: no row before the lowest with the name has both, and there the value decides.
+-- The searches by name and value and by name alone, made in one pass: what holds once some rows are passed, the turn at each row, and the answers.
+-- A row that does not serve for the name does not serve for both, and where it serves for the name the value decides.
 use mathlib.Core.Path.{_≡_, refl, sym, ap, ap₂, _∙_}
-use Prim.Native.Nat.{ℕ, zero, suc, _+_, _-_, _≤_, _<_}
+use Prim.Native.Nat.{ℕ, _+_, _-_, _≤_, _<_}
 use native.Mathlib.Omega.{arith}
 use mathlib.Core.Bool.{Bool, true, false}
 use mathlib.Core.List.{List}
-use Rattle.memory.proofs.Order.{pick-both, pick-false}
+use lib.Dec.{eqb}
+use borrow.Author.Tests.{eq-eqb, ne-eqb}
+use Rattle.memory.specs.Choice.{pick}
+use Rattle.memory.proofs.Order.{pick-true, pick-false}
 use Rattle.model.proofs.Tables.{nope}
-use Rattle.search.specs.Search.{servesAt, hasValueAt, servesBothAt, lowestRow, paired}
+use Rattle.state.specs.Layout.{countOf, rowPlace}
+use Rattle.search.specs.Search.{rowOf, servesAt, hasValueAt, servesBothAt, lowestRow, paired}
 use Rattle.search.specs.declared.names.Sought.{Sought}
 use Rattle.search.specs.declared.names.Sought.the-variants.{Row, Nothing}
 use Rattle.search.specs.declared.names.Paired.{Paired}
 use Rattle.search.specs.declared.names.Paired.the-variants.{Both, Name, Nothing as NoRow}
-use Rattle.search.proofs.Walking.{row-more, row-here, row-within}
+use Rattle.search.proofs.Fields.{row-of}
+use Rattle.search.proofs.Walking.{row-start, row-more, row-here, row-done}
 use Rattle.search.proofs.Serving.{not-named, value-decides}
 
--- ---- a test that implies another
+-- ---- a place that is kept, 0 where there is none yet
 
-module _ (f g : ℕ → Bool) (less : (i : ℕ) → f i ≡ false → g i ≡ false) where
-  none-less : (k i : ℕ) → lowestRow f k i ≡ Nothing → lowestRow g k i ≡ Nothing
-  unfolding lowestRow
-  none-less zero i e = refl
-  none-less (suc k) i e =
-      pick-both (λ (r : Sought). r ≡ Nothing → lowestRow g (suc k) i ≡ Nothing) (f i) (Row i) (lowestRow f k (i + 1))
-      (λ t d. nope (cc))
-      (λ t d. pick-false (g i) (Row i) (lowestRow g k (i + 1)) (less i t) ∙ none-less k (i + 1) d)
-      e
+-- the row at the place, else what the rows behind have
+unfoldable pub kept : ℕ → Sought → Sought
+kept first later = pick (eqb first 0) later (Row (rowOf first))
 
-  -- the lowest for f is row p: the search for g may begin there
-  begin : (k i p : ℕ) → lowestRow f k i ≡ Row p → (f p ≡ true) × (lowestRow g k i ≡ lowestRow g (i + k - p) p)
-  unfolding lowestRow
-  begin zero i p e = nope (cc)
-  begin (suc k) i p e =
-      pick-both (λ (r : Sought). r ≡ Row p → (f p ≡ true) × (lowestRow g (suc k) i ≡ lowestRow g (i + suc k - p) p)) (f i) (Row i) (lowestRow f k (i + 1))
-      (λ t d. let z : i ≡ p = cc in
-      let n : suc k ≡ i + suc k - p = omega arith in
-      (ap f (sym z) ∙ t, ap₂ (lowestRow g) n z))
-      (λ t d. let r = begin k (i + 1) p d in
-      let n : i + 1 + k - p ≡ i + suc k - p = omega arith in
-      (r .0, pick-false (g i) (Row i) (lowestRow g k (i + 1)) (less i t) ∙ r .1 ∙ ap (λ (j : ℕ). lowestRow g j p) n))
-      e
+kept-none : (first : ℕ) (later : Sought) → first ≡ 0 → kept first later ≡ later
+unfolding kept
+kept-none first later e = pick-true (eqb first 0) later (Row (rowOf first)) (eq-eqb first 0 e)
 
--- ---- the two searches of the table
+kept-row : (first : ℕ) (later : Sought) → (first ≡ 0 → ⊥) → kept first later ≡ Row (rowOf first)
+unfolding kept
+kept-row first later f = pick-false (eqb first 0) later (Row (rowOf first)) (ne-eqb first 0 f)
 
-module _ (m name value : List ℕ) (n : ℕ) where
-  abbrev named : Sought
-  named = lowestRow (servesAt m name) n 0
+-- ---- the rows below row i are passed: none has both, and the lowest with the name is kept
 
-  abbrev whole : Sought
-  whole = lowestRow (servesBothAt m name value) n 0
+pub record Passed (m name value : List ℕ) (i first : ℕ) : Type 0 where
+  pub within : i ≤ countOf m
+  pub place : (first ≡ 0 → ⊥) → 1088 ≤ first
+  pub whole : lowestRow (servesBothAt m name value) (countOf m) 0 ≡ lowestRow (servesBothAt m name value) (countOf m - i) i
+  pub named : lowestRow (servesAt m name) (countOf m) 0 ≡ kept first (lowestRow (servesAt m name) (countOf m - i) i)
 
-  pub pair-none : named ≡ Nothing → NoRow ≡ paired whole named
+pub pass-start : (m name value : List ℕ) → Passed m name value 0 0
+pass-start m name value =
+    record {
+      within = omega arith;
+      place = λ f. absurd (f refl);
+      whole = row-start (servesBothAt m name value) (countOf m);
+      named = row-start (servesAt m name) (countOf m) ∙ sym (kept-none 0 (lowestRow (servesAt m name) (countOf m - 0) 0) refl);
+    }
+
+module _ (m name value : List ℕ) (i first : ℕ) (p : Passed m name value i first) where
+  -- ---- the turns: j is the next row, and f the place that is kept then
+  module _ (h : i < countOf m) (j : ℕ) (next : j ≡ i + 1) (f : ℕ) where
+    more : (test : ℕ → Bool) → test i ≡ false → lowestRow test (countOf m - i) i ≡ lowestRow test (countOf m - j) j
+    more test t = rw next (row-more test (countOf m) i h t)
+
+    pub pass-other : servesAt m name i ≡ false → f ≡ first → Passed m name value j f
+    pass-other t e =
+        rw e
+        (record {
+          within = omega arith;
+          place = p .place;
+          whole = p .whole ∙ more (servesBothAt m name value) (not-named m name value i t);
+          named = p .named ∙ ap (kept first) (more (servesAt m name) t);
+        })
+
+    module _ (t : servesAt m name i ≡ true) (v : hasValueAt m value i ≡ false) where
+      without : lowestRow (servesBothAt m name value) (countOf m) 0 ≡ lowestRow (servesBothAt m name value) (countOf m - j) j
+      without = p .whole ∙ more (servesBothAt m name value) (value-decides m name value i t ∙ v)
+
+      pub pass-first : first ≡ 0 → f ≡ rowPlace i → Passed m name value j f
+      pass-first z e =
+          let later = lowestRow (servesAt m name) (countOf m - i) i in
+          record {
+            within = omega arith;
+            place = λ g. omega arith;
+            whole = without;
+            named =
+                p .named
+                ∙ kept-none first later z
+                ∙ row-here (servesAt m name) (countOf m) i h t
+                ∙ ap Row (sym (row-of i e))
+                ∙ sym (kept-row f (lowestRow (servesAt m name) (countOf m - j) j) (λ g. omega arith));
+          }
+
+      pub pass-later : (first ≡ 0 → ⊥) → f ≡ first → Passed m name value j f
+      pass-later g e =
+          rw e
+          (record {
+            within = omega arith;
+            place = p .place;
+            whole = without;
+            named =
+                p .named
+                ∙ kept-row first (lowestRow (servesAt m name) (countOf m - i) i) g
+                ∙ sym (kept-row first (lowestRow (servesAt m name) (countOf m - j) j) g);
+          })
+
+  -- ---- the answers
+  abbrev answer : Paired
+  answer = paired (lowestRow (servesBothAt m name value) (countOf m) 0) (lowestRow (servesAt m name) (countOf m) 0)
+
+  pub pair-both : i < countOf m → servesAt m name i ≡ true → hasValueAt m value i ≡ true → Both i ≡ answer
   unfolding paired
-  pair-none e =
-      sym (ap₂ paired (none-less (servesAt m name) (servesBothAt m name value) (not-named m name value) n 0 e) e)
+  pair-both h t v =
+      sym
+      (ap (λ (o : Sought). paired o (lowestRow (servesAt m name) (countOf m) 0))
+      (p .whole ∙ row-here (servesBothAt m name value) (countOf m) i h (value-decides m name value i t ∙ v)))
 
-  module _ (p : ℕ) (e : named ≡ Row p) where
-    start : (servesAt m name p ≡ true) × (whole ≡ lowestRow (servesBothAt m name value) (0 + n - p) p)
-    start = begin (servesAt m name) (servesBothAt m name value) (not-named m name value) n 0 p e
+  module _ (h : countOf m ≤ i) where
+    none : lowestRow (servesBothAt m name value) (countOf m) 0 ≡ Nothing
+    none = p .whole ∙ row-done (servesBothAt m name value) (countOf m) i h
 
-    pub pair-within : p < n
-    pair-within = omega (arith, row-within (servesAt m name) n 0 p e .1)
-
-    turned : whole ≡ lowestRow (servesBothAt m name value) (n - p) p
-    turned = let d : 0 + n - p ≡ n - p = omega arith in start .1 ∙ ap (λ (k : ℕ). lowestRow (servesBothAt m name value) k p) d
-
-    pub pair-first : hasValueAt m value p ≡ true → Both p ≡ paired whole named
+    pub pair-name : (first ≡ 0 → ⊥) → Name (rowOf first) ≡ answer
     unfolding paired
-    pair-first t =
-        sym (ap (λ (o : Sought). paired o named) (turned ∙ row-here _ n p pair-within (value-decides m name value p (start .0) ∙ t)))
+    pair-name g = sym (ap₂ paired none (p .named ∙ kept-row first (lowestRow (servesAt m name) (countOf m - i) i) g))
 
-    module _ (t : hasValueAt m value p ≡ false) where
-      later : whole ≡ lowestRow (servesBothAt m name value) (n - (p + 1)) (p + 1)
-      later = turned ∙ row-more _ n p pair-within (value-decides m name value p (start .0) ∙ t)
-
-      pub pair-later : (i : ℕ) → lowestRow (servesBothAt m name value) (n - (p + 1)) (p + 1) ≡ Row i → Both i ≡ paired whole named
-      unfolding paired
-      pair-later i d = sym (ap (λ (o : Sought). paired o named) (later ∙ d))
-
-      pub pair-name : lowestRow (servesBothAt m name value) (n - (p + 1)) (p + 1) ≡ Nothing → Name p ≡ paired whole named
-      unfolding paired
-      pair-name d = sym (ap₂ paired (later ∙ d) e)
+    pub pair-none : first ≡ 0 → NoRow ≡ answer
+    unfolding paired
+    pair-none z =
+        sym
+        (ap₂ paired none
+        (p .named ∙ kept-none first (lowestRow (servesAt m name) (countOf m - i) i) z ∙ row-done (servesAt m name) (countOf m) i h))
 
 -- ---- what a pair says of them
 

@@ -43,14 +43,14 @@ module _ (m : List ℕ) (o : Ordered m) (i : ℕ) (h : i < countOf m) (name : Li
   other-length f =
       ap (λ (t : Bool). eqb (statusAt m i) 0 && t) (length-same (nameAt m i) name (λ e. f (sym length-name ∙ e))) ∙ and-false (eqb (statusAt m i) 0)
 
-  -- k, t and r: the length and the offset as they were read, and what the comparison answered
-  pub name-compared : {k t : ℕ} {r : Bool} → t ≡ offsetAt m i → k ≡ nameLengthAt m i → k ≡ length name → statusAt m i ≡ 0
+  -- t and r: the offset as it was read, and what the comparison answered
+  pub name-compared : {t : ℕ} {r : Bool} → t ≡ offsetAt m i → nameLengthAt m i ≡ length name → statusAt m i ≡ 0
       → r ≡ sameAt (length name) m (3136 + t) name 0 → r ≡ servesAt m name i
   unfolding servesAt
-  name-compared {k} {t} d n e z a =
+  name-compared {t} d e z a =
       a
       ∙ same-all m (3136 + t) name (omega (arith, name-end m o i h))
-      ∙ ap₂ (λ (j u : ℕ). same (part m (3136 + u) j) name) (sym e ∙ n) d
+      ∙ ap₂ (λ (j u : ℕ). same (part m (3136 + u) j) name) (sym e) d
       ∙ sym (and-left (eqb (statusAt m i) 0) (same (nameAt m i) name) (eq-eqb (statusAt m i) 0 z))
 
 -- the value, and both

@@ -1,12 +1,13 @@
 -- Where entries stand in the table: by index, by name, by name and value, and the lowest vacant index.
-use Prim.Native.Nat.{ℕ, zero, suc, _+_, _≤_, _<_}
+use mathlib.Core.Path.{_≡_}
+use Prim.Native.Nat.{ℕ, zero, suc, _+_, _-_, _/_, _≤_, _<_}
 use mathlib.Core.Bool.{Bool, _&&_}
 use mathlib.Core.List.{List}
 use lib.ListN.{length}
 use lib.Dec.{eqb, ltb}
 use Rattle.memory.specs.Choice.{pick}
 use Rattle.memory.specs.Compare.{same}
-use Rattle.state.specs.Layout.{countOf, indexAt, offsetAt, nameLengthAt, valueLengthAt, statusAt}
+use Rattle.state.specs.Layout.{countOf, rowPlace, indexAt, offsetAt, nameLengthAt, valueLengthAt, statusAt}
 use Rattle.state.specs.Rows.{nameAt, valueAt}
 use Rattle.search.specs.declared.find.Found.{Found}
 use Rattle.search.specs.declared.find.Found.the-variants.{At, Vacant}
@@ -23,6 +24,14 @@ pub record Ordered (m : List ℕ) : Type 0 where
   pub low : (i : ℕ) → i < countOf m → 62 + i ≤ indexAt m i
   pub rising : (i j : ℕ) → i < j → j < countOf m → indexAt m i < indexAt m j
   pub text : (i : ℕ) → i < countOf m → offsetAt m i + (nameLengthAt m i + valueLengthAt m i) ≤ 4096
+
+-- the row that stands at a place, by its number; and that there is one
+abbrev pub rowOf : ℕ → ℕ
+rowOf at = (at - 1088) / 16
+
+pub record RowStands (m : List ℕ) (at : ℕ) : Type 0 where
+  pub place : at ≡ rowPlace (rowOf at)
+  pub held : rowOf at < countOf m
 
 -- the row with index x, of the k rows from row i on, the last; or the place at which it would stand
 unfoldable pub findFrom : List ℕ → ℕ → ℕ → ℕ → Found

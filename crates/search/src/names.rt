@@ -1,11 +1,13 @@
 // The lowest entry with a name, or with a name and a value, that is not under deletion. Lengths are compared first, so that most rows cost one look.
 ghost use mathlib.Core.Path.{_≡_};
-ghost use Prim.Native.Nat.{ℕ, _+_, _-_, _≤_, _<_};
-ghost use Rattle.state.specs.Layout.{countOf};
-ghost use Rattle.search.specs.Search.{Ordered, servesAt, hasValueAt, servesBothAt, lowestRow, paired};
+ghost use Prim.Native.Nat.{ℕ, _+_, _<_};
+ghost use lib.ListN.{length};
+ghost use Rattle.state.specs.Layout.{countOf, nameLengthAt};
+ghost use Rattle.search.specs.Search.{Ordered, RowStands, rowOf, servesAt, hasValueAt, servesBothAt, lowestRow, paired};
 use crate::text::stands_at;
 use memory::number::u16_at;
 use state::layout::COUNT;
+use state::layout::ROWS;
 use state::layout::TEXT;
 use state::layout::row_place;
 
@@ -21,6 +23,31 @@ pub enum Paired {
     Nothing,
 }
 
+// Does the row at this place serve for this name, which is as long as its own?
+fn has_name_at(m: &[u8], at: usize, name: &[u8]) -> bool
+    requires { ⌜ RowStands (now m) at × Ordered (now m) ⌝ }
+    requires { ⌜ nameLengthAt (now m) (rowOf at) ≡ length (now name) ⌝ }
+    ensures { λ r. ⌜ r ≡ servesAt (now (m .entry)) (now (name .entry)) (rowOf at) ⌝ }
+{
+    if u16_at(m, at + 10) != 0 {
+        return false;
+    }
+    stands_at(m, TEXT + (u16_at(m, at + 4) as usize), name)
+}
+
+// Has the row at this place this value?
+fn has_value_at(m: &[u8], at: usize, value: &[u8]) -> bool
+    requires { ⌜ RowStands (now m) at × Ordered (now m) ⌝ }
+    ensures { λ r. ⌜ r ≡ hasValueAt (now (m .entry)) (now (value .entry)) (rowOf at) ⌝ }
+{
+    let n = u16_at(m, at + 8) as usize;
+    if n != value.len() {
+        return false;
+    }
+    let start = TEXT + (u16_at(m, at + 4) as usize) + (u16_at(m, at + 6) as usize);
+    stands_at(m, start, value)
+}
+
 // Does row `i` serve for this name?
 fn has_name(m: &[u8], i: usize, name: &[u8]) -> bool
     requires { ⌜ (i < countOf (now m)) × Ordered (now m) ⌝ }
@@ -31,35 +58,7 @@ fn has_name(m: &[u8], i: usize, name: &[u8]) -> bool
     if n != name.len() {
         return false;
     }
-    if u16_at(m, at + 10) != 0 {
-        return false;
-    }
-    stands_at(m, TEXT + (u16_at(m, at + 4) as usize), name)
-}
-
-// Has row `i` this value?
-fn has_value(m: &[u8], i: usize, value: &[u8]) -> bool
-    requires { ⌜ (i < countOf (now m)) × Ordered (now m) ⌝ }
-    ensures { λ r. ⌜ r ≡ hasValueAt (now (m .entry)) (now (value .entry)) i ⌝ }
-{
-    let at = row_place(i);
-    let n = u16_at(m, at + 8) as usize;
-    if n != value.len() {
-        return false;
-    }
-    let start = TEXT + (u16_at(m, at + 4) as usize) + (u16_at(m, at + 6) as usize);
-    stands_at(m, start, value)
-}
-
-// Does row `i` serve for this name and this value?
-fn has_both(m: &[u8], i: usize, name: &[u8], value: &[u8]) -> bool
-    requires { ⌜ (i < countOf (now m)) × Ordered (now m) ⌝ }
-    ensures { λ r. ⌜ r ≡ servesBothAt (now (m .entry)) (now (name .entry)) (now (value .entry)) i ⌝ }
-{
-    if !has_name(m, i, name) {
-        return false;
-    }
-    has_value(m, i, value)
+    has_name_at(m, at, name)
 }
 
 // The lowest entry with this name that is not under deletion.
@@ -78,39 +77,31 @@ pub fn find_name(m: &[u8], name: &[u8]) -> Sought
     Sought::Nothing
 }
 
-// The lowest with this name and this value, from row `from` on.
-fn find_both(m: &[u8], name: &[u8], value: &[u8], from: usize) -> Sought
-    requires { ⌜ Ordered (now m) ⌝ }
-    requires { ⌜ from ≤ countOf (now m) ⌝ }
-    ensures { λ r. ⌜ r ≡ lowestRow (servesBothAt (now (m .entry)) (now (name .entry)) (now (value .entry))) (countOf (now (m .entry)) - from) from ⌝ }
-{
-    let count = u16_at(m, COUNT) as usize;
-    let mut i = from;
-    while i < count {
-        if has_both(m, i, name, value) {
-            return Sought::Row(i);
-        }
-        i += 1;
-    }
-    Sought::Nothing
-}
-
-// Both in one pass: no row before the lowest with the name has name and value.
+// Both in one pass over the places of rows. `first` is the place of the lowest row with the name, 0 as long as there is none.
 pub fn find_pair(m: &[u8], name: &[u8], value: &[u8]) -> Paired
     requires { ⌜ Ordered (now m) ⌝ }
     ensures { λ r. ⌜ r ≡ paired (lowestRow (servesBothAt (now (m .entry)) (now (name .entry)) (now (value .entry))) (countOf (now (m .entry))) 0)
         (lowestRow (servesAt (now (m .entry)) (now (name .entry))) (countOf (now (m .entry))) 0) ⌝ }
 {
-    match find_name(m, name) {
-        Sought::Nothing => Paired::Nothing,
-        Sought::Row(first) => {
-            if has_value(m, first, value) {
-                return Paired::Both(first);
-            }
-            match find_both(m, name, value, first + 1) {
-                Sought::Row(i) => Paired::Both(i),
-                Sought::Nothing => Paired::Name(first),
+    let end = row_place(u16_at(m, COUNT) as usize);
+    let n = name.len();
+    let mut first: usize = 0;
+    let mut at = ROWS;
+    while at < end {
+        if (u16_at(m, at + 6) as usize) == n {
+            if has_name_at(m, at, name) {
+                if has_value_at(m, at, value) {
+                    return Paired::Both((at - ROWS) / 16);
+                }
+                if first == 0 {
+                    first = at;
+                }
             }
         }
+        at += 16;
     }
+    if first == 0 {
+        return Paired::Nothing;
+    }
+    Paired::Name((first - ROWS) / 16)
 }

@@ -37,19 +37,36 @@ fn same_eights(m: &[u8], at: usize, b: &[u8]) -> bool
     true
 }
 
+// Eight bytes or more, by words from the start on: the last stands at the end, and may overlap the one before it.
+fn same_long(m: &[u8], at: usize, b: &[u8]) -> bool
+    requires { ⌜ (8 ≤ length (now b)) × (at + length (now b) ≤ length (now m)) ⌝ }
+    ensures { λ r. ⌜ r ≡ sameAt (length (now (b .entry))) (now (m .entry)) at (now (b .entry)) 0 ⌝ }
+{
+    let last = b.len() - 8;
+    let mut k: usize = 0;
+    while k < last {
+        if u64_at(m, at + k) != u64_at(b, k) {
+            return false;
+        }
+        k += 8;
+    }
+    u64_at(m, at + last) == u64_at(b, last)
+}
+
 // Are the bytes from the place `at` on those of `b`?
 pub fn stands_at(m: &[u8], at: usize, b: &[u8]) -> bool
     requires { ⌜ at + length (now b) ≤ length (now m) ⌝ }
     ensures { λ r. ⌜ r ≡ sameAt (length (now (b .entry))) (now (m .entry)) at (now (b .entry)) 0 ⌝ }
 {
     let n = b.len();
-    if 4 <= n {
-        if n < 8 {
-            return same_fours(m, at, b);
-        }
-        if n <= 16 {
-            return same_eights(m, at, b);
-        }
+    if n < 4 {
+        return same(m, at, b, 0, n);
     }
-    same(m, at, b, 0, n)
+    if n < 8 {
+        return same_fours(m, at, b);
+    }
+    if n <= 16 {
+        return same_eights(m, at, b);
+    }
+    same_long(m, at, b)
 }

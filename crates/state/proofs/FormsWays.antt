@@ -1,6 +1,7 @@
 -- The ways through the test of what forms a state: at which question it says no, what it asks last, and what it says where it says yes.
 -- A question that is answered is rewritten by its answer, and the chain computes.
 use Prim.Native.Nat.{ℕ, _+_, _*_, _-_, _≤_, _<_}
+use native.Mathlib.Omega.{arith}
 use mathlib.Core.Path.{_≡_, refl, sym, ap, _∙_}
 use mathlib.Core.Bool.{Bool, true, false, _&&_, and-assoc}
 use mathlib.Core.List.{List}
@@ -190,6 +191,13 @@ module _ (m : List ℕ) (at horizon : ℕ) (first : horizon ≡ number 2 m at) w
 
       pub list-zeros : ordered ≡ true → listOk m at ≡ zerosAt (32 - 2 * count) m (at + 4 + 2 * count)
       list-zeros e = last ∙ rw e refl
+
+    pub list-empty : count ≡ 0 → listOk m at ≡ zerosAt 32 m (at + 4)
+    unfolding streamsOk
+    list-empty e =
+        let left : 32 - 2 * count ≡ 32 = omega arith in
+        let from : at + 4 + 2 * count ≡ at + 4 = omega arith in
+        rw (left, from) at (list-zeros (omega arith) true (rw e refl) refl)
 
 -- ---- the whole
 

@@ -133,6 +133,13 @@ module _ (name : List ℕ) where
   unfolding lowestName
   name-nothing n i e k a b h = nothing (λ x. hasName x name) n i e k a b (name-has name k h)
 
+  -- the entry found for a name is the lowest with its own name, which is the one sought
+  pub name-first : (j : TableIndex) → findName name ≡ At j → (1 ≤ j .value) × (j .value ≤ 61) × (findName (staticName (j .value)) ≡ At j)
+  name-first j e = let l = name-found 61 1 j e in (l .low, omega (arith, l .high), ap findName (l .holds) ∙ e)
+
+  pub name-both : (j : TableIndex) → findName name ≡ At j → (value : List ℕ) → findBoth (staticName (j .value)) value ≡ findBoth name value
+  name-both j e value = ap (λ (n : List ℕ). findBoth n value) (name-found 61 1 j e .holds)
+
 module _ (name value : List ℕ) where
   pub both-found : (n i : ℕ) (j : TableIndex) → lowestBoth n i name value ≡ At j → Lowest (HasBoth name value) i (i + n) (j .value)
   unfolding lowestBoth

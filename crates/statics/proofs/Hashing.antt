@@ -1,21 +1,21 @@
 -- The hash of a name leaves at most the lowest entry with that name: a computed test over the entries, and what follows from it for every name.
 use mathlib.Core.Path.{_≡_, refl, sym, ap, subst, _∙_}
 use mathlib.Core.Bool.{Bool, true, false}
-use Prim.Native.Nat.{ℕ, zero, suc, _+_, _*_, _-_, _%_, _≤_, _<_}
+use Prim.Native.Nat.{ℕ, _+_, _*_, _-_, _%_, _≤_}
 use native.Mathlib.Omega.{arith}
 use mathlib.Core.List.{List, [], _∷_}
 use lib.Dec.{T, eqb, eqb→eq}
-use borrow.Author.Tests.{eqb-true, eq-eqb}
+use borrow.Author.Tests.{eqb-true}
 use lib.ListN.{length, getD}
-use Rattle.memory.specs.Choice.{pick}
 use Rattle.memory.specs.Compare.{same}
-use Rattle.memory.proofs.Order.{either, not-both, pick-true, pick-false}
+use Rattle.memory.proofs.Order.{not-both}
 use Rattle.integers.specs.declared.number.TableIndex.{TableIndex}
 use Rattle.statics.specs.Table.{Entry, entries, entryAt, staticName}
 use Rattle.statics.specs.Search.{hasName, lowest, lowestName, findName}
 use Rattle.statics.specs.Hash.{hashOf, indexOf, hashedOf}
 use Rattle.statics.specs.declared.search.StaticFound.{StaticFound}
 use Rattle.statics.specs.declared.search.StaticFound.the-variants.{At, Nothing}
+use Rattle.statics.proofs.Arms.{NoneIn, among, not-among}
 use Rattle.statics.proofs.Places.{every, every-in}
 use Rattle.statics.proofs.Finding.{found, has-name, name-has, name-found, name-nothing}
 
@@ -89,26 +89,6 @@ abbrev hashes : List ℕ
 hashes =
     250 ∷ 246 ∷ 239 ∷ 237 ∷ 229 ∷ 221 ∷ 216 ∷ 207 ∷ 205 ∷ 204 ∷ 203 ∷ 201 ∷ 199 ∷ 198 ∷ 192 ∷ 190 ∷ 187 ∷ 183 ∷ 182 ∷ 181 ∷ 179 ∷ 176 ∷ 168 ∷ 157 ∷ 155 ∷ 141 ∷
     140 ∷ 137 ∷ 131 ∷ 126 ∷ 120 ∷ 116 ∷ 114 ∷ 108 ∷ 107 ∷ 104 ∷ 103 ∷ 101 ∷ 100 ∷ 98 ∷ 94 ∷ 87 ∷ 77 ∷ 71 ∷ 63 ∷ 59 ∷ 58 ∷ 56 ∷ 44 ∷ 36 ∷ 28 ∷ 17 ∷ []
-
--- none of these, as the last arm has it
-abbrev pub NoneIn : List ℕ → ℕ → Type 0
-NoneIn [] hash = Unit {0}
-NoneIn (k ∷ ks) hash = NoneIn ks hash × (hash ≡ k → ⊥)
-
-abbrev among : List ℕ → ℕ → Bool
-among [] hash = false
-among (k ∷ ks) hash = pick (eqb hash k) true (among ks hash)
-
-pick-eq : (P : Bool → Type 0) (i j : ℕ) (a b : Bool) → (i ≡ j → P a) → ((i ≡ j → ⊥) → P b) → P (pick (eqb i j) a b)
-pick-eq P i j a b f g =
-    either (eqb i j)
-    (λ t. subst P (sym (pick-true (eqb i j) a b t)) (f (eqb-true i j t)))
-    (λ t. subst P (sym (pick-false (eqb i j) a b t)) (g (λ e. not-both (eqb i j) (eq-eqb i j e) t)))
-
-not-among : (ks : List ℕ) (hash : ℕ) → NoneIn ks hash → T (among ks hash) → ⊥
-not-among [] hash n t = t
-not-among (k ∷ ks) hash n t =
-    pick-eq (λ (b : Bool). T b → ⊥) hash k true (among ks hash) (λ e u. n .1 e) (λ e u. not-among ks hash (n .0) u) t
 
 entry-among : (k : ℕ) → 1 ≤ k → k ≤ 61 → T (among hashes (hashOf (staticName k)))
 unfolding entryAt entries hashOf

@@ -9,6 +9,7 @@ use mathlib.Core.List.{List, [], _∷_}
 use lib.Dec.{T, leb, ltb, leb→le, ltb→lt}
 use lib.ListN.{length, getD}
 use Rattle.memory.specs.Bytes.{part, Small}
+use Rattle.memory.proofs.Order.{split}
 use Rattle.statics.specs.Table.{Entry, entries, entryAt, textOf, staticText, staticName, staticValue, placeOf}
 use Rattle.statics.specs.declared.table.StaticPlace.{StaticPlace}
 use Rattle.statics.proofs.Entries.{Stands, stands}
@@ -75,6 +76,17 @@ pub every-in : {A : Type 0} (f : A → Bool) (d : A) (xs : List A) → T (every 
 every-in f d [] t k h = absurd (not-suc-le-zero h)
 every-in f d (x ∷ xs) t zero h = both-left (f x) (every f xs) t
 every-in f d (x ∷ xs) t (suc k) h = every-in f d xs (both-right (f x) (every f xs) t) k (le-of-suc-le-suc h)
+
+-- numbers below n, tested one by one
+abbrev pub below : (ℕ → Bool) → ℕ → Bool
+below f zero = true
+below f (suc n) = both (f n) (below f n)
+
+pub below-at : (f : ℕ → Bool) (n k : ℕ) → T (below f n) → k < n → T (f k)
+below-at f zero k t h = absurd (omega arith)
+below-at f (suc n) k t h =
+    split k n (λ l. below-at f n k (both-right (f n) (below f n) t) l)
+    (λ l. let e : n ≡ k = omega arith in subst (λ (i : ℕ). T (f i)) e (both-left (f n) (below f n) t))
 
 -- a list of at most 255 bytes
 abbrev short : List ℕ → Bool

@@ -1,7 +1,7 @@
 -- Entries with one name stand together: a computed test over the entries. So a search by name and value looks at the values of that run alone.
 use mathlib.Core.Path.{_≡_, refl, sym, ap, subst, _∙_}
 use mathlib.Core.Bool.{Bool, true, false}
-use Prim.Native.Nat.{ℕ, zero, suc, _+_, _-_, _≤_, _<_}
+use Prim.Native.Nat.{ℕ, _+_, _-_, _≤_, _<_}
 use native.Mathlib.Nat.{add-zero}
 use native.Mathlib.Omega.{arith}
 use mathlib.Core.List.{List}
@@ -9,27 +9,15 @@ use lib.Dec.{T, eqb, leb, leb→le}
 use borrow.Author.Tests.{eq-eqb, le-leb, lt-leb}
 use Rattle.memory.specs.Choice.{pick}
 use Rattle.memory.specs.Compare.{same}
-use Rattle.memory.proofs.Order.{split, pick-true, not-both}
+use Rattle.memory.proofs.Order.{pick-true, not-both}
 use Rattle.integers.specs.declared.number.TableIndex.{TableIndex}
 use Rattle.statics.specs.Table.{entries, entryAt, staticName, staticValue}
 use Rattle.statics.specs.Search.{hasName, hasBoth, lowest, lowestName, lowestBoth, findName, findBoth}
 use Rattle.statics.specs.Hash.{lastOf, hasValue}
 use Rattle.statics.specs.declared.search.StaticFound.{StaticFound}
 use Rattle.statics.specs.declared.search.StaticFound.the-variants.{At, Nothing}
-use Rattle.statics.proofs.Places.{both, both-left, both-right}
+use Rattle.statics.proofs.Places.{both, both-left, both-right, below, below-at}
 use Rattle.statics.proofs.Finding.{skip, name-has, has-both, start-at}
-
--- ---- numbers that are tested one by one
-
-abbrev below : (ℕ → Bool) → ℕ → Bool
-below f zero = true
-below f (suc n) = both (f n) (below f n)
-
-below-at : (f : ℕ → Bool) (n k : ℕ) → T (below f n) → k < n → T (f k)
-below-at f zero k t h = absurd (omega arith)
-below-at f (suc n) k t h =
-    split k n (λ l. below-at f n k (both-right (f n) (below f n) t) l)
-    (λ l. let e : n ≡ k = omega arith in subst (λ (i : ℕ). T (f i)) e (both-left (f n) (below f n) t))
 
 -- ---- the run of an entry
 

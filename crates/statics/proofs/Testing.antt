@@ -1,4 +1,4 @@
--- One entry of the static table compared with a name or a value: lengths that differ decide, and else the bytes at the entry's place do.
+-- One entry of the static table compared with a name or a value: lengths that differ decide, and else the bytes at the place of a name do.
 use mathlib.Core.Path.{_≡_, sym, ap, ap₂, _∙_}
 use mathlib.Core.Bool.{false}
 use Prim.Native.Nat.{ℕ, _+_, _≤_}
@@ -16,7 +16,7 @@ use Rattle.statics.specs.declared.table.StaticPlace.{StaticPlace}
 use Rattle.statics.proofs.Entries.{Stands}
 
 -- a list that stands in a text at a place, compared with a list of its length
-same-part : (text : List ℕ) (at n : ℕ) (x y : List ℕ) → part text at n ≡ x → at + n ≤ length text → n ≡ length y
+pub same-part : (text : List ℕ) (at n : ℕ) (x y : List ℕ) → part text at n ≡ x → at + n ≤ length text → n ≡ length y
     → sameAt n text at y 0 ≡ same x y
 same-part text at n x y e b l =
     sameAt-same n text at y 0 b (omega arith) ∙ ap₂ same e (ap (part y 0) l ∙ part-all y)
@@ -31,10 +31,6 @@ module _ {text : List ℕ} {p : StaticPlace} (i : ℕ) (s : Stands text p (entry
   name-other f = sym (length-same (staticName i) name (λ e. f (sym (s .name-length) ∙ e)))
 
 module _ {text : List ℕ} {p : StaticPlace} (i : ℕ) (s : Stands text p (entryAt i)) (value : List ℕ) where
-  pub value-same : p .value ≡ length value → sameAt (p .value) text (p .start + p .name) value 0 ≡ hasValue i value
-  unfolding hasValue
-  value-same l = same-part text (p .start + p .name) (p .value) (staticValue i) value (s .value) (s .end) l
-
   pub value-other : (p .value ≡ length value → ⊥) → false ≡ hasValue i value
   unfolding hasValue
   value-other f = sym (length-same (staticValue i) value (λ e. f (sym (s .value-length) ∙ e)))

@@ -1,9 +1,9 @@
--- What the steps of the searches find: the one entry that a name's hash leaves, and the run of entries with one name.
+-- What the steps of the searches find: the one entry that a name's hash leaves, the run of entries with one name, and which values are sought at all.
 use Prim.Native.Nat.{ℕ, _+_, _*_, _-_, _%_}
-use mathlib.Core.Bool.{Bool}
+use mathlib.Core.Bool.{Bool, true, false}
 use mathlib.Core.List.{List}
 use lib.ListN.{length, getD}
-use lib.Dec.{eqb}
+use lib.Dec.{eqb, ltb}
 use Rattle.memory.specs.Choice.{pick}
 use Rattle.memory.specs.Compare.{same}
 use Rattle.statics.specs.Table.{staticName, staticValue}
@@ -29,3 +29,18 @@ lastOf i = pick (eqb i 2) 3 (pick (eqb i 4) 5 (pick (eqb i 6) 7 (pick (eqb i 8) 
 
 unfoldable pub hasValue : ℕ → List ℕ → Bool
 hasValue i value = same (staticValue i) value
+
+-- may a static entry have a value of n bytes that begins with this one?
+unfoldable pub mayBegin : ℕ → ℕ → Bool
+mayBegin n first =
+    pick (eqb n 0) true
+    (pick (eqb n 1) (eqb first 47)
+    (pick (eqb n 3) (ltb first 72)
+    (pick (eqb n 4) (pick (eqb first 80) true (eqb first 104))
+    (pick (eqb n 5) (eqb first 104)
+    (pick (eqb n 11) (eqb first 47)
+    (pick (eqb n 13) (eqb first 103) false))))))
+
+-- may a static entry have this value, by its length and its first byte?
+unfoldable pub mayBeValue : List ℕ → Bool
+mayBeValue value = mayBegin (length value) (getD value 0 0)

@@ -3,3 +3,4 @@ pub mod Ascii
 pub mod Table
 pub mod Search
 pub mod Hash
+pub mod Ends

@@ -1,10 +1,16 @@
-// Searches of the static table: a name's hash leaves one entry to compare, and entries with one name stand together.
+// Searches of the static table: a name's hash leaves one entry to compare, and entries with one name stand together. Up to 16 bytes are compared by two
+// words. Most values are those of no entry by their length and first byte.
 ghost use mathlib.Core.Path.{_≡_};
 ghost use Prim.Native.Nat.{ℕ, _+_, _≤_};
 ghost use lib.ListN.{length};
 ghost use Rattle.statics.specs.Table.{staticName};
 ghost use Rattle.statics.specs.Search.{hasName, findName, findBoth};
-ghost use Rattle.statics.specs.Hash.{hasValue, lastOf};
+ghost use Rattle.statics.specs.Hash.{hasValue, lastOf, mayBeValue};
+ghost use Rattle.statics.specs.Ends.{sameEnds};
+use crate::ends::Ends;
+use crate::ends::ends_of;
+use crate::ends::name_ends;
+use crate::ends::value_ends;
 use crate::hashes::hashed_entry;
 use crate::hashes::name_hash;
 use crate::table::static_place;
@@ -17,7 +23,17 @@ pub enum StaticFound {
     Nothing,
 }
 
-// Has the entry with index `i` this name? The text is only read here, so that the compiler makes no copy of it.
+// Do both ends agree?
+fn same_ends(a: Ends, b: Ends) -> bool
+    ensures { λ r. ⌜ r ≡ sameEnds a b ⌝ }
+{
+    if a.first != b.first {
+        return false;
+    }
+    a.last == b.last
+}
+
+// Has the entry with index `i` this name? The text is only read here, so that the compiler makes no copy of it, and only for a long name.
 fn has_name(i: u32, name: &[u8]) -> bool
     requires { ⌜ (1 ≤ i) × (i ≤ 61) ⌝ }
     ensures { λ r. ⌜ r ≡ hasName i (now (name .entry)) ⌝ }
@@ -27,11 +43,14 @@ fn has_name(i: u32, name: &[u8]) -> bool
     if n != name.len() {
         return false;
     }
+    if n <= 16 {
+        return same_ends(name_ends(i), ends_of(name));
+    }
     let text = static_text();
     same(&text, p.start as usize, name, 0, n)
 }
 
-// Has the entry with index `i` this value?
+// Has the entry with index `i` this value? No static value has more than 16 bytes.
 fn has_value(i: u32, value: &[u8]) -> bool
     requires { ⌜ (1 ≤ i) × (i ≤ 61) ⌝ }
     ensures { λ r. ⌜ r ≡ hasValue i (now (value .entry)) ⌝ }
@@ -41,8 +60,7 @@ fn has_value(i: u32, value: &[u8]) -> bool
     if n != value.len() {
         return false;
     }
-    let text = static_text();
-    same(&text, (p.start as usize) + (p.name as usize), value, 0, n)
+    same_ends(value_ends(i), ends_of(value))
 }
 
 // The lowest index of an entry with this name.
@@ -73,7 +91,7 @@ fn last_of(i: u32) -> u32
 }
 
 // The lowest entry with this value and with the name of `first`, which is the lowest with it.
-pub fn find_value(first: TableIndex, value: &[u8]) -> StaticFound
+fn find_value(first: TableIndex, value: &[u8]) -> StaticFound
     requires { ⌜ (1 ≤ first .value) × (first .value ≤ 61) × (findName (staticName (first .value)) ≡ StaticFound.At first) ⌝ }
     ensures { λ r. ⌜ r ≡ findBoth (staticName (first .value)) (now (value .entry)) ⌝ }
 {
@@ -86,4 +104,42 @@ pub fn find_value(first: TableIndex, value: &[u8]) -> StaticFound
         i += 1;
     }
     StaticFound::Nothing
+}
+
+// May a static entry have this value? Length and first byte tell, so that most values need no search.
+fn may_be_value(value: &[u8]) -> bool
+    ensures { λ r. ⌜ r ≡ mayBeValue (now (value .entry)) ⌝ }
+{
+    let n = value.len();
+    if n == 0 {
+        return true;
+    }
+    let first = value[0];
+    match n {
+        1 => first == b'/',
+        3 => first < b'H',
+        4 => {
+            if first == b'P' {
+                return true;
+            }
+            first == b'h'
+        }
+        5 => first == b'h',
+        11 => first == b'/',
+        13 => first == b'g',
+        _ => false,
+    }
+}
+
+// The lowest entry with this name and this value.
+pub fn find_both(name: &[u8], value: &[u8]) -> StaticFound
+    ensures { λ r. ⌜ r ≡ findBoth (now (name .entry)) (now (value .entry)) ⌝ }
+{
+    if !may_be_value(value) {
+        return StaticFound::Nothing;
+    }
+    match find_name(name) {
+        StaticFound::At(i) => find_value(i, value),
+        StaticFound::Nothing => StaticFound::Nothing,
+    }
 }

@@ -1,71 +1,116 @@
--- `search::names::find_pair` meets its contract: the lowest row with the name, its value, and then the rows behind it.
-use denote.Ref.{now}
+-- `search::names::find_pair` meets its contract. The loop's invariant: the row at `at` is the next, none before it has both, and the lowest with the name
+-- is kept. The measure is what is left of the rows.
+use Prim.Native.Nat.{_-_}
 use mathlib.Core.Path.{_≡_, sym, _∙_}
+use mathlib.Core.Logic.{⊎-elim}
 use native.Mathlib.Omega.{arith}
-use Rattle.state.specs.Layout.{countOf}
-use Rattle.search.specs.Search.{servesAt, lowestRow}
-use Rattle.search.specs.declared.names.Sought.the-variants.{Row}
-use Rattle.search.proofs.Pairing.{pair-none, pair-within, pair-first, pair-later, pair-name}
-use borrow.Author.Needs.{needs}
+use Rattle.state.specs.Layout.{rowPlace}
+use Rattle.search.specs.Search.{rowOf}
+use Rattle.search.proofs.Fields.{row-field}
+use Rattle.search.proofs.Serving.{other-length}
+use Rattle.search.proofs.Pairing.{Passed, pass-start, pass-other, pass-first, pass-later, pair-both, pair-name, pair-none}
 use Rattle.search.proofs.names.find_pair.Statement.{statement}
 use Rattle.search.proofs.names.find_pair.Tie as tie
 
--- the row of the name
-first : (c : tie.After-known-told)
-    → let a = c .before .before .before .before .before .before .before .args in lowestRow (servesAt (now (a .m)) (now (a .name))) (countOf (now (a .m))) 0 ≡ Row (c .before .first .given .0 .0)
-first c = sym (c .before .before .before .find-name .ensures) ∙ c .before .first .given .1
+abbrev Inv-loop : tie.InvT-loop
+Inv-loop m name value end n first₀ at₀ first at = (at ≡ rowPlace (rowOf at)) × Passed m name value (rowOf at) first
 
-find-name-requires : tie.Need-find-name-requires
-find-name-requires c κs = search needs
+abbrev μ-loop : tie.MeasureT-loop
+μ-loop m name value end n first₀ at₀ first at = end - at
 
-enum-told : tie.Need-enum-told
-enum-told c = search needs
+u16-at-requires : tie.Need-u16-at-requires Inv-loop μ-loop
+u16-at-requires c κs = omega (arith, c .before .before .before .pre .long)
 
-enum-known-first : tie.Need-enum-known-first
-enum-known-first c = search needs
+cast-row-place : tie.Need-cast-row-place Inv-loop μ-loop
+cast-row-place c = omega arith
 
-has-value-requires : tie.Need-has-value-requires
-has-value-requires c κs = (pair-within _ _ (now (c .before .before .before .before .before .before .before .args .value)) _ _ (first c), c .before .before .before .before .before .before .before .pre)
+row-place-requires : tie.Need-row-place-requires Inv-loop μ-loop
+row-place-requires c κs = omega (arith, c .before .before .before .before .pre .few)
 
-returns : tie.Need-returns
-returns c = pair-first _ _ _ _ _ (first (c .before .before)) (sym (c .before .has-value .ensures) ∙ c .if1 .taken)
+loop-holds : tie.Need-loop-holds Inv-loop μ-loop
+loop-holds c = (omega arith, pass-start _ _ _)
 
-add-find-both : tie.Need-add-find-both
-add-find-both c = omega (arith, pair-within _ _ (now (c .before .before .before .before .before .before .before .before .before .args .value)) _ _ (first (c .before .before)), c .before .before .before .before .before .before .before .before .before .pre .few)
+add-u16-at : tie.Need-add-u16-at Inv-loop μ-loop
+add-u16-at c = omega arith
 
-find-both-requires : tie.Need-find-both-requires
-find-both-requires c κs = (c .before .before .before .before .before .before .before .before .before .pre, omega (arith, pair-within _ _ (now (c .before .before .before .before .before .before .before .before .before .args .value)) _ _ (first (c .before .before))))
+u16-at-requires-2 : tie.Need-u16-at-requires-2 Inv-loop μ-loop
+u16-at-requires-2 c κs = let o = c .before .before .before .before .before .before .before .pre in omega (arith, o .few, o .long)
 
-enum-known-i : tie.Need-enum-known-i
-enum-known-i c = search needs
+cast-if1 : tie.Need-cast-if1 Inv-loop μ-loop
+cast-if1 c = omega arith
 
-enum-told-2 : tie.Need-enum-told-2
-enum-told-2 c = search needs
+has-name-at-requires : tie.Need-has-name-at-requires Inv-loop μ-loop
+has-name-at-requires c κs =
+    let place = c .before .before .before .loop .inv .0 in
+    let ordered = c .before .before .before .before .before .before .before .before .before .pre in
+    ((record { place = place; held = omega arith }, ordered), sym (row-field 2 6 _ _ place (c .before .u16-at2 .ensures)) ∙ c .if1 .taken)
 
-returns-2 : tie.Need-returns-2
-returns-2 c = pair-none _ _ _ _ (sym (c .before .before .find-name .ensures) ∙ c .enum-told .given .1)
+has-value-at-requires : tie.Need-has-value-at-requires Inv-loop μ-loop
+has-value-at-requires c κs =
+    let ordered = c .before .before .before .before .before .before .before .before .before .before .before .pre in
+    (record { place = c .before .before .before .before .before .loop .inv .0; held = omega arith }, ordered)
 
-returns-3 : tie.Need-returns-3
-returns-3 c =
-    pair-later _ _ _ _ _ (first (c .before .before .before .before .before .before)) (sym (c .before .before .before .before .before .has-value .ensures) ∙ c .before .before .before .before .if1 .left) _ (sym (c .before .before .before .find-both .ensures) ∙ c .before .i .given .1)
+sub-t16 : tie.Need-sub-t16 Inv-loop μ-loop
+sub-t16 c = omega arith
 
-returns-4 : tie.Need-returns-4
-returns-4 c =
-    pair-name _ _ _ _ _ (first (c .before .before .before .before .before)) (sym (c .before .before .before .before .has-value .ensures) ∙ c .before .before .before .if1 .left) (sym (c .before .before .find-both .ensures) ∙ c .enum-told2 .given .1)
+returns : tie.Need-returns Inv-loop μ-loop
+returns c =
+    let name = sym (c .before .before .before .has-name-at .ensures) ∙ c .before .before .if2 .taken in
+    let value = sym (c .before .has-value-at .ensures) ∙ c .if3 .taken in
+    pair-both _ _ _ _ _ (c .before .before .before .before .before .before .before .loop .inv .1) (omega arith) name value
+
+add-at : tie.Need-add-at Inv-loop μ-loop
+add-at c = omega (arith, c .before .before .before .before .before .before .before .before .before .pre .few)
+
+loop-less : tie.Need-loop-less Inv-loop μ-loop
+loop-less c = omega arith
+
+loop-again : tie.Need-loop-again Inv-loop μ-loop
+loop-again c =
+    let place = c .before .before .before .loop .inv .0 in
+    let p = c .before .before .before .loop .inv .1 in
+    let length = row-field 2 6 _ _ place (c .before .u16-at2 .ensures) in
+    let ordered = c .before .before .before .before .before .before .before .before .before .pre in (
+      omega arith,
+      ⊎-elim
+          (λ w. pass-first _ _ _ _ _ p (omega arith) _ (omega arith) _ (sym (w .1 .ensures) ∙ w .2 .taken) (sym (w .3 .ensures) ∙ w .4 .left) (w .5 .taken) (w .6 ∙ place))
+          (⊎-elim
+          (λ w. pass-later _ _ _ _ _ p (omega arith) _ (omega arith) _ (sym (w .1 .ensures) ∙ w .2 .taken) (sym (w .3 .ensures) ∙ w .4 .left) (w .5 .left) (w .6))
+          (⊎-elim
+          (λ w. pass-other _ _ _ _ _ p (omega arith) _ (omega arith) _ (sym (w .1 .ensures) ∙ w .2 .left) (w .3))
+          (λ w. pass-other _ _ _ _ _ p (omega arith) _ (omega arith) _ (other-length _ ordered _ (omega arith) _ (λ e. w .0 .left (length ∙ e))) (w .1))))
+          (c .if1 .came),
+    )
+
+returns-2 : tie.Need-returns-2 Inv-loop μ-loop
+returns-2 c = pair-none _ _ _ _ _ (c .before .before .loop .inv .1) (omega arith) (c .if5 .taken)
+
+sub-t9 : tie.Need-sub-t9 Inv-loop μ-loop
+sub-t9 c = c .before .before .loop .inv .1 .place (c .if5 .left)
+
+returns-3 : tie.Need-returns-3 Inv-loop μ-loop
+returns-3 c = pair-name _ _ _ _ _ (c .before .before .loop .inv .1) (omega arith) (c .if5 .left)
 
 pub find-pair-spec : {M : Type 1} → statement M
 find-pair-spec =
     tie.close
     (tie.spec
-    find-name-requires
-    enum-told
-    enum-known-first
-    has-value-requires
+    Inv-loop
+    μ-loop
+    u16-at-requires
+    cast-row-place
+    row-place-requires
+    loop-holds
+    add-u16-at
+    u16-at-requires-2
+    cast-if1
+    has-name-at-requires
+    has-value-at-requires
+    sub-t16
     returns
-    add-find-both
-    find-both-requires
-    enum-known-i
-    enum-told-2
+    add-at
+    loop-less
+    loop-again
     returns-2
-    returns-3
-    returns-4)
+    sub-t9
+    returns-3)

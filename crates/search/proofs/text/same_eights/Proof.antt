@@ -1,7 +1,7 @@
 -- `search::text::same_eights` meets its contract: the word at the start, and the word at the end.
 use mathlib.Core.Path.{sym, _∙_}
 use native.Mathlib.Omega.{arith}
-use Rattle.search.proofs.Ends.{ends-first, ends-last, ends-both}
+use Rattle.memory.proofs.Ends.{ends-first, ends-last, ends-both}
 use borrow.Author.Needs.{needs}
 use Rattle.search.proofs.text.same_eights.Statement.{statement}
 use Rattle.search.proofs.text.same_eights.Tie as tie
