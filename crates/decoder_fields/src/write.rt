@@ -7,14 +7,16 @@ ghost use Rattle.statics.specs.Table.{staticText};
 ghost use Rattle.wire.specs.Text.{InText, stringLength, stringBytes};
 ghost use Rattle.fields.specs.Form.{textForm, fieldForm};
 ghost use Rattle.blocks.specs.Representation.{Representation};
-ghost use Rattle.blocks.specs.Reading.{InBytes};
+ghost use Rattle.blocks.specs.Reading.{InBytes, readRepresentation};
 ghost use Rattle.state.specs.Layout.{countOf};
 ghost use Rattle.state.specs.Rows.{nameAt, valueAt};
 ghost use Rattle.search.specs.Search.{Ordered};
 ghost use Rattle.decoder_survey.specs.Measure.{Stands, fieldOf, fieldAt, namedAt, literalAt, IsField, fieldBytes, ReadsWell, meaningOf, IsList, listBytes};
 ghost use Rattle.decoder_survey.specs.Passes.{rowField, ShortLiteral, shortForm, meaningFrom, Unwritten};
+ghost use Rattle.decoder_fields.specs.Indexes.{indexIn, IsLiteral};
 use blocks::read::RepresentationPlace;
 use blocks::read::RepresentationRead;
+use blocks::read::read_representation;
 use decoder_survey::entry::place_of;
 use decoder_survey::entry::row_name;
 use decoder_survey::entry::row_of;
@@ -33,6 +35,12 @@ use statics::table::LAST;
 use statics::table::static_text;
 use wire::name::NamePlace;
 use wire::text::StringPlace;
+
+// What is read at a place of a block: an entry's index and the place after it, or anything else.
+pub enum IndexedRead {
+    Entry(TableIndex, usize),
+    Other,
+}
 
 // A string of `s` with its length before it.
 fn write_string_text(s: &[u8], p: StringPlace, out: &mut [u8], at: usize) -> usize
@@ -109,8 +117,8 @@ fn write_literal(
     write_string_text(s, value, out, next)
 }
 
-// One representation's field.
-fn write_meant<'a>(
+// A literal's field.
+fn write_literal_place<'a>(
     text: &'a [u8],
     m: &'a [u8],
     s: &[u8],
@@ -119,6 +127,7 @@ fn write_meant<'a>(
     at: usize,
 ) -> usize
     requires { ⌜ (now text ≡ staticText) × Stands (now m) ⌝ }
+    requires { ⌜ IsLiteral r ⌝ }
     requires { ⌜ InBytes (now s) r ⌝ }
     requires { ⌜ IsField (fieldAt (now m) (now s) r) ⌝ }
     requires { ⌜ at + length (fieldBytes (fieldAt (now m) (now s) r)) ≤ length (now out) ⌝ }
@@ -126,7 +135,8 @@ fn write_meant<'a>(
     ensures { λ _. ⌜ now (out .exit) ≡ overlay (now (out .entry)) at (fieldBytes (fieldAt (now (m .entry)) (now (s .entry)) r)) ⌝ }
 {
     match r {
-        RepresentationPlace::Indexed(index) => write_indexed(text, m, index, out, at),
+        // No index is handed over.
+        RepresentationPlace::Indexed(_) => at,
         RepresentationPlace::Literal(flag, name, value) => match name {
             NamePlace::Index(index) => write_named(text, m, s, flag, index, value, out, at),
             NamePlace::Text(bytes) => write_literal(s, flag, bytes, value, out, at),
@@ -134,7 +144,35 @@ fn write_meant<'a>(
     }
 }
 
+// The index at the place `at`, if one is read there. Most take one byte, and for these no reader is asked, nor for a literal.
+fn read_index(s: &[u8], at: usize) -> IndexedRead
+    requires { ⌜ at < length (now s) ⌝ }
+    ensures { λ r. ⌜ r ≡ indexIn (readRepresentation (now (s .entry)) at) ⌝ }
+{
+    let b = s[at];
+    if 128 < b && b < 255 {
+        return IndexedRead::Entry(
+            TableIndex {
+                value: (b as u32) - 128,
+            },
+            at + 1,
+        );
+    }
+    if b < 128 {
+        return IndexedRead::Other;
+    }
+    let r = read_representation(s, at);
+    let RepresentationRead::Found(place, next) = r else {
+        return IndexedRead::Other;
+    };
+    let RepresentationPlace::Indexed(index) = place else {
+        return IndexedRead::Other;
+    };
+    IndexedRead::Entry(index, next)
+}
+
 // All fields from a place of the block on, whatever their form. Only here the static text is made, once.
+// An index goes its own way, past `read_next`, whose answer is built in memory. `write_indexed` is called in this one place: a second makes the code slower.
 fn write_rest(m: &[u8], s: &[u8], from: usize, out: &mut [u8], start: usize)
     requires { ⌜ Stands (now m) ⌝ }
     requires { ⌜ Unwritten (now m) (now s) (now out) from start ⌝ }
@@ -144,12 +182,20 @@ fn write_rest(m: &[u8], s: &[u8], from: usize, out: &mut [u8], start: usize)
     let mut to: usize = start;
     let mut at: usize = from;
     while at < s.len() {
-        let r = read_next(s, at);
-        let RepresentationRead::Found(place, next) = r else {
-            return;
-        };
-        to = write_meant(&text, m, s, place, out, to);
-        at = next;
+        match read_index(s, at) {
+            IndexedRead::Entry(index, next) => {
+                to = write_indexed(&text, m, index, out, to);
+                at = next;
+            }
+            IndexedRead::Other => {
+                let r = read_next(s, at);
+                let RepresentationRead::Found(place, next) = r else {
+                    return;
+                };
+                to = write_literal_place(&text, m, s, place, out, to);
+                at = next;
+            }
+        }
     }
 }
 

@@ -2,15 +2,18 @@
 use Prim.Native.Nat.{_-_}
 use denote.Ref.{now}
 use native.Mathlib.Omega.{arith}
-use mathlib.Core.Path.{_≡_, sym, _∙_}
+use mathlib.Core.Path.{_≡_, sym, ap, _∙_}
 use lib.ListN.{length}
 use Rattle.memory.specs.Bytes.{overlay}
 use Rattle.blocks.specs.Reading.{readRepresentation}
+use Rattle.blocks.specs.declared.read.RepresentationPlace.the-variants.{Indexed}
 use Rattle.blocks.specs.declared.read.RepresentationRead.the-variants.{Found}
 use Rattle.blocks.proofs.Bounds.{representation-good}
 use Rattle.decoder_survey.specs.Measure.{listBytes}
 use Rattle.decoder_survey.specs.Passes.{meaningFrom}
 use Rattle.decoder_survey.proofs.Rest.{no-refusal}
+use Rattle.decoder_fields.specs.Indexes.{indexIn, IsLiteral}
+use Rattle.decoder_fields.proofs.Indexing.{entry-read, other-read}
 use Rattle.decoder_fields.proofs.Writing.{Writing, writing-on, writing-next, writing-turn, writing-ends}
 use borrow.Author.Needs.{needs}
 use Rattle.decoder_fields.proofs.write.write_rest.Statement.{statement}
@@ -22,10 +25,20 @@ Inv-loop m s from out₀ start text to₀ at₀ out to at = Writing m s out₀ (
 abbrev μ-loop : tie.MeasureT-loop
 μ-loop m s from out₀ start text to₀ at₀ out to at = length s - at
 
--- what was read
-read : (c : tie.After-known-told Inv-loop μ-loop) → let p = c .before .r .given .0 in
-    readRepresentation (now (c .before .before .before .before .before .before .before .before .before .before .args .s)) (c .before .before .before .before .before .loop .at) ≡ Found (p .0) (p .1 .0)
+-- the index that was read
+entry : (c : tie.After-known-told Inv-loop μ-loop) → let p = c .before .index .given .0 in
+    readRepresentation (now (c .before .before .before .before .before .before .before .before .before .before .args .s)) (c .before .before .before .before .before .loop .at) ≡ Found (Indexed (p .0)) (p .1 .0)
+entry c = entry-read _ _ _ (sym (c .before .index .given .1) ∙ c .before .before .before .read-index .ensures)
+
+-- what else was read, which is a literal
+read : (c : tie.After-known-told2 Inv-loop μ-loop) → let p = c .before .r .given .0 in
+    readRepresentation (now (c .before .before .before .before .before .before .before .before .before .before .before .before .before .args .s)) (c .before .before .before .before .before .before .before .before .loop .at) ≡ Found (p .0) (p .1 .0)
 read c = sym (c .before .before .before .read-next .ensures) ∙ c .before .r .given .1
+
+literal : (c : tie.After-known-told2 Inv-loop μ-loop) → IsLiteral (c .before .r .given .0 .0)
+literal c =
+    let p = c .before .r .given .0 in
+    other-read (p .0) (p .1 .0) (sym (c .before .before .before .before .enum-told .given .1) ∙ c .before .before .before .before .before .before .read-index .ensures ∙ ap indexIn (read c))
 
 static-text-requires : tie.Need-static-text-requires Inv-loop μ-loop
 static-text-requires c κs = search needs
@@ -33,40 +46,67 @@ static-text-requires c κs = search needs
 loop-holds : tie.Need-loop-holds Inv-loop μ-loop
 loop-holds c = writing-on _ _ _ _ _ (c .before .before .before .before .pre .1)
 
-read-next-requires : tie.Need-read-next-requires Inv-loop μ-loop
-read-next-requires c κs = c .loop-test .taken
+read-index-requires : tie.Need-read-index-requires Inv-loop μ-loop
+read-index-requires c κs = c .loop-test .taken
 
-enum-known-r : tie.Need-enum-known-r Inv-loop μ-loop
-enum-known-r c = search needs
+enum-known-index : tie.Need-enum-known-index Inv-loop μ-loop
+enum-known-index c = search needs
 
-enum-told : tie.Need-enum-told Inv-loop μ-loop
-enum-told c = search needs
+slice-aggregate-write-indexed : tie.Need-slice-aggregate-write-indexed Inv-loop μ-loop
+slice-aggregate-write-indexed c = search needs
 
-same-length : tie.Need-same-length Inv-loop μ-loop
-same-length c = c .before .before .before .before .loop .inv .same
-
-returns : tie.Need-returns Inv-loop μ-loop
-returns c =
-    let e = sym (c .before .before .read-next .ensures) ∙ c .enum-told .given .1 in
-    no-refusal _ _ (c .before .before .before .before .loop .inv .rest .reads) (c .before .before .before .loop-test .taken) _ e
-
-slice-aggregate-write-meant : tie.Need-slice-aggregate-write-meant Inv-loop μ-loop
-slice-aggregate-write-meant c = search needs
-
-write-meant-requires : tie.Need-write-meant-requires Inv-loop μ-loop
-write-meant-requires c κs =
+write-indexed-requires : tie.Need-write-indexed-requires Inv-loop μ-loop
+write-indexed-requires c κs =
     let known = c .before .before in
-    let w = writing-next _ _ _ _ _ _ _ (known .before .before .before .before .before .loop .inv) (known .before .before .before .before .loop-test .taken) _ _ (read known) in
-    ((known .before .before .before .before .before .before .static-text .ensures, known .before .before .before .before .before .before .before .before .before .before .pre .0), (representation-good _ _ _ _ (read known) .places, w))
+    let w = writing-next _ _ _ _ _ _ _ (known .before .before .before .before .before .loop .inv) (known .before .before .before .before .loop-test .taken) _ _ (entry known) in
+    ((known .before .before .before .before .before .before .static-text .ensures, known .before .before .before .before .before .before .before .before .before .before .pre .0, representation-good _ _ _ _ (entry known) .places .0), w)
 
 loop-less : tie.Need-loop-less Inv-loop μ-loop
-loop-less c = let g = representation-good _ _ _ _ (read (c .before .before .before .before .before)) in omega (arith, g .past, g .inside)
+loop-less c = let g = representation-good _ _ _ _ (entry (c .before .before .before .before .before)) in omega (arith, g .past, g .inside)
 
 loop-again : tie.Need-loop-again Inv-loop μ-loop
 loop-again c =
     let known = c .before .before .before .before .before in
-    let w = c .before .before .write-meant .ensures in
-    writing-turn _ _ _ _ _ _ _ (known .before .before .before .before .before .loop .inv) (known .before .before .before .before .loop-test .taken) _ _ (read known) _ _ (w .0) (w .1)
+    let w = c .before .before .write-indexed .ensures in
+    writing-turn _ _ _ _ _ _ _ (known .before .before .before .before .before .loop .inv) (known .before .before .before .before .loop-test .taken) _ _ (entry known) _ _ (w .0) (w .1)
+
+enum-told : tie.Need-enum-told Inv-loop μ-loop
+enum-told c = search needs
+
+read-next-requires : tie.Need-read-next-requires Inv-loop μ-loop
+read-next-requires c κs = c .before .before .before .loop-test .taken
+
+enum-known-r : tie.Need-enum-known-r Inv-loop μ-loop
+enum-known-r c = search needs
+
+enum-told-2 : tie.Need-enum-told-2 Inv-loop μ-loop
+enum-told-2 c = search needs
+
+same-length : tie.Need-same-length Inv-loop μ-loop
+same-length c = c .before .before .before .before .before .before .before .loop .inv .same
+
+returns : tie.Need-returns Inv-loop μ-loop
+returns c =
+    let e = sym (c .before .before .read-next .ensures) ∙ c .enum-told2 .given .1 in
+    no-refusal _ _ (c .before .before .before .before .before .before .before .loop .inv .rest .reads) (c .before .before .before .before .before .before .loop-test .taken) _ e
+
+slice-aggregate-write-literal-place : tie.Need-slice-aggregate-write-literal-place Inv-loop μ-loop
+slice-aggregate-write-literal-place c = search needs
+
+write-literal-place-requires : tie.Need-write-literal-place-requires Inv-loop μ-loop
+write-literal-place-requires c κs =
+    let known = c .before .before in
+    let w = writing-next _ _ _ _ _ _ _ (known .before .before .before .before .before .before .before .before .loop .inv) (known .before .before .before .before .before .before .before .loop-test .taken) _ _ (read known) in
+    ((known .before .before .before .before .before .before .before .before .before .static-text .ensures, known .before .before .before .before .before .before .before .before .before .before .before .before .before .pre .0), (literal known, (representation-good _ _ _ _ (read known) .places, w)))
+
+loop-less-2 : tie.Need-loop-less-2 Inv-loop μ-loop
+loop-less-2 c = let g = representation-good _ _ _ _ (read (c .before .before .before .before .before)) in omega (arith, g .past, g .inside)
+
+loop-again-2 : tie.Need-loop-again-2 Inv-loop μ-loop
+loop-again-2 c =
+    let known = c .before .before .before .before .before in
+    let w = c .before .before .write-literal-place .ensures in
+    writing-turn _ _ _ _ _ _ _ (known .before .before .before .before .before .before .before .before .loop .inv) (known .before .before .before .before .before .before .before .loop-test .taken) _ _ (read known) _ _ (w .0) (w .1)
 
 same-length-2 : tie.Need-same-length-2 Inv-loop μ-loop
 same-length-2 c = c .before .loop .inv .same
@@ -82,14 +122,21 @@ write-rest-spec =
     μ-loop
     static-text-requires
     loop-holds
-    read-next-requires
-    enum-known-r
-    enum-told
-    same-length
-    returns
-    slice-aggregate-write-meant
-    write-meant-requires
+    read-index-requires
+    enum-known-index
+    slice-aggregate-write-indexed
+    write-indexed-requires
     loop-less
     loop-again
+    enum-told
+    read-next-requires
+    enum-known-r
+    enum-told-2
+    same-length
+    returns
+    slice-aggregate-write-literal-place
+    write-literal-place-requires
+    loop-less-2
+    loop-again-2
     same-length-2
     returns-2)

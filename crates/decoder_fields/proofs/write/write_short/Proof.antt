@@ -1,11 +1,12 @@
 -- `write_short` meets its contract: the flag, and the bytes of the block behind it.
-use Prim.Native.Nat.{ℕ, _+_, _-_, _/_}
+use Prim.Native.Nat.{ℕ, _+_, _-_}
 use mathlib.Core.Path.{ap, _∙_}
 use native.Mathlib.Omega.{arith}
 use denote.Ref.{now}
-use lib.ListN.{getD, set, length-set}
+use lib.ListN.{length, getD, set, length-set}
 use Rattle.memory.specs.Bytes.{part, overlay}
 use Rattle.memory.proofs.Places.{length-part}
+use Rattle.memory.proofs.Overlay.{length-overlay}
 use Rattle.decoder_survey.proofs.ShortForms.{flag-bit}
 use borrow.Author.Needs.{needs}
 use Rattle.decoder_fields.proofs.write.write_short.Statement.{statement}
@@ -40,9 +41,7 @@ copy-requires c κs =
     simp length-set (omega (arith, n, L .ends, c .before .before .before .before .before .pre .1))
 
 same-length : tie.Need-same-length
-same-length c =
-    let a = c .before .before .before .before .before .before .before .before .args in
-    omega (arith, c .before .before .copy, length-set (now (a .out)) (a .to) (getD (now (a .s)) (a .at) 0 / 64))
+same-length c = ap length (c .before .before .copy .ensures .1) ∙ simp (length-overlay, length-set)
 
 returns : tie.Need-returns
 returns c =

@@ -1,0 +1,50 @@
+-- An index told apart from what else is read: what each answer says of what was read, and that no index is read below 128.
+-- By the cases of what is read.
+use Prim.Native.Nat.{ℕ, _<_}
+use mathlib.Core.Path.{_≡_, refl, sym, ap, _∙_}
+use mathlib.Core.List.{List}
+use lib.ListN.{length, getD}
+use Rattle.integers.specs.declared.number.TableIndex.{TableIndex}
+use Rattle.wire.specs.Text.{readString}
+use Rattle.wire.specs.Name.{readName}
+use Rattle.wire.specs.declared.text.StringRead.{StringRead}
+use Rattle.wire.specs.declared.text.StringRead.the-variants.{Found as StringFound, Refused as StringRefused}
+use Rattle.wire.specs.declared.name.NamePlace.{NamePlace}
+use Rattle.wire.specs.declared.name.NameRead.{NameRead}
+use Rattle.wire.specs.declared.name.NameRead.the-variants.{Found as NameFound, Refused as NameRefused}
+use Rattle.blocks.specs.Reading.{readLiteral, readRepresentation}
+use Rattle.blocks.specs.declared.read.RepresentationPlace.{RepresentationPlace}
+use Rattle.blocks.specs.declared.read.RepresentationPlace.the-variants.{Indexed, Literal}
+use Rattle.blocks.specs.declared.read.RepresentationRead.{RepresentationRead}
+use Rattle.blocks.specs.declared.read.RepresentationRead.the-variants.{Found, Refused}
+use Rattle.blocks.proofs.Equations.{literal-name-refused, literal-value-refused, literal-found, representation-literal}
+use Rattle.model.proofs.Tables.{nope}
+use Rattle.decoder_fields.specs.Indexes.{indexIn, IsLiteral}
+use Rattle.decoder_fields.specs.declared.write.IndexedRead.the-variants.{Entry, Other}
+
+-- what was read, from what is told of it
+pub entry-read : (r : RepresentationRead) (i : TableIndex) (next : ℕ) → Entry i next ≡ indexIn r → r ≡ Found (Indexed i) next
+entry-read (Found (Indexed j) n) i next e = cc
+entry-read (Found (Literal flag name value) n) i next e = nope (cc)
+entry-read (Refused number) i next e = nope (cc)
+
+pub other-read : (p : RepresentationPlace) (next : ℕ) → Other ≡ indexIn (Found p next) → IsLiteral p
+other-read (Indexed i) next e = nope (cc)
+other-read (Literal flag name value) next e = tt
+
+-- what is told, from the kind of representation that was found
+pub place-read : {r : RepresentationRead} {p q : RepresentationPlace} {next : ℕ} → r ≡ Found p next → p ≡ q → indexIn (Found q next) ≡ indexIn r
+place-read {next = next} e d = sym (ap indexIn e ∙ ap (λ (x : RepresentationPlace). indexIn (Found x next)) d)
+
+-- below 128 a literal is read, or it is refused
+module _ (s : List ℕ) (at : ℕ) where
+  literal-value : (name : NamePlace) (next : ℕ) → readName 6 s at ≡ NameFound name next → (t : StringRead) → t ≡ readString s next 2047 → indexIn (readLiteral s at) ≡ Other
+  literal-value name next d (StringFound value after) f = ap indexIn (literal-found s at _ refl name next d _ f value after refl)
+  literal-value name next d (StringRefused number) f = ap indexIn (literal-value-refused s at _ refl name next d _ f number refl)
+
+  literal-name : (r : NameRead) → r ≡ readName 6 s at → indexIn (readLiteral s at) ≡ Other
+  literal-name (NameFound name next) e = literal-value name next (sym e) _ refl
+  literal-name (NameRefused number) e = ap indexIn (literal-name-refused s at _ e number refl)
+
+  pub low-other : at < length s → getD s at 0 < 128 → Other ≡ indexIn (readRepresentation s at)
+  low-other h k = sym (ap indexIn (representation-literal s at h k) ∙ literal-name _ refl)
