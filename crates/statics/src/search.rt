@@ -33,7 +33,7 @@ fn same_ends(a: Ends, b: Ends) -> bool
     a.last == b.last
 }
 
-// Has the entry with index `i` this name? The text is only read here, so that the compiler makes no copy of it, and only for a long name.
+// Has the entry with index `i` this name? The static text is laid on the stack where it is made, so only for a long name.
 fn has_name(i: u32, name: &[u8]) -> bool
     requires { ⌜ (1 ≤ i) × (i ≤ 61) ⌝ }
     ensures { λ r. ⌜ r ≡ hasName i (now (name .entry)) ⌝ }
