@@ -17,7 +17,7 @@ use Rattle.state_laws.proofs.DecoderForms.{forms-holds-decoder}
 use Rattle.state_laws.proofs.DecoderLaws.{decoder-laws}
 use Rattle.changes.specs.DecoderChanges.{DecoderChanges}
 use Rattle.changes.proofs.DecoderClaim.{decoder-claim}
-use Rattle.reply.specs.Result.{Result, stepped}
+use Rattle.reply.specs.Result.{Result, refused, stepped}
 
 -- bytes that form a state
 pub record Stands (m : List ℕ) : Type 0 where
@@ -32,6 +32,10 @@ pub record Leaves (r : Result) (a : Answer) (after : List ℕ) : Type 0 where
 -- the same of a call that is another's
 pub same : {r t : Result} {a : Answer} {after : List ℕ} → r ≡ t → Leaves t a after → Leaves r a after
 same e l = record { answer = l .answer ∙ ap (λ (x : Result). x .answer) (sym e); memory = l .memory ∙ ap (λ (x : Result). x .memory) (sym e) }
+
+-- a call that is refused
+pub refuses : (m : List ℕ) (number : ℕ) → Leaves (refused m [] number) (refusal number) m
+refuses m number = record { answer = refl; memory = refl }
 
 -- so an answer and a memory are the call's
 pub meets : {r : Result} {a b : Answer} {now after : List ℕ} → Leaves r b after → a ≡ b → now ≡ after → (a ≡ r .answer) × (now ≡ r .memory)

@@ -1,3 +1,2 @@
 -- The decoder's calls on memory and bytes.
 pub mod Calls
-pub mod Steps

@@ -1,5 +1,4 @@
-// The decoder's calls, one module a call. Blocks are in a crate of their own.
+// The decoder's calls, one module a call. Reads, blocks and collects are in crates of their own.
 pub mod ended;
 pub mod enquiry;
-pub mod read;
 pub mod start;

@@ -4,10 +4,10 @@ ghost use Rattle.reply.specs.Reply.{packed};
 ghost use Rattle.decoder.specs.Calls.{startCall, readCall, blockCall, endedCall, holdCall, collectCall};
 use decoder::ended::ended;
 use decoder::enquiry::enquire;
-use decoder::read::read;
 use decoder::start::start;
 use decoder_block::block::block;
 use decoder_collect::collect::collect;
+use decoder_read::read::read;
 
 #[no_mangle]
 pub extern "C" fn kolowrotan_decoder_start(memory: &mut [u8], limit: u64) -> u64

@@ -49,7 +49,7 @@ pub fn perform(
     let s = first(bytes, call.end);
     match kind {
         Kind::DecoderStart => decoder::start::start(decoder, call.first),
-        Kind::DecoderRead => decoder::read::read(decoder, s),
+        Kind::DecoderRead => decoder_read::read::read(decoder, s),
         Kind::DecoderBlock => decoder_block::block::block(
             decoder,
             call.first,

@@ -1,12 +1,12 @@
 use mathlib.Core.Path.{refl}
 use native.Mathlib.Omega.{arith}
 use Rattle.decoder.proofs.Standing.{Stands, meets, carried, changes}
-use Rattle.decoder.proofs.Naming.{name-static, name-row, name-nowhere, indexed-named, indexed-vacant}
+use Rattle.decoder_read.proofs.Naming.{name-static, name-row, name-nowhere, indexed-named, indexed-vacant}
 use borrow.Author.Needs.{needs}
-use Rattle.decoder.proofs.read.insert_by_index.Statement.{statement}
-use Rattle.decoder.proofs.read.insert_by_index.Tie as tie
+use Rattle.decoder_read.proofs.read.insert_by_index.Statement.{statement}
+use Rattle.decoder_read.proofs.read.insert_by_index.Tie as tie
 
--- `decoder::read::insert_by_index` meets its contract: where the index names an entry, its name is the model's.
+-- `decoder_read::read::insert_by_index` meets its contract: where the index names an entry, its name is the model's.
 
 stands : (c : tie.After-slice-known) → Stands (c .before .args .m .now)
 stands c = record { small = λ k. omega (arith, c .slice-known .given k); forms = c .before .pre .0 .1 }

@@ -1,13 +1,13 @@
 use mathlib.Core.Path.{sym, _∙_}
 use native.Mathlib.Omega.{arith}
 use Rattle.search.specs.Search.{Ordered}
 use Rattle.decoder.proofs.Standing.{changes}
-use Rattle.decoder.proofs.Insertion.{judged-held, judged-over, judged-full, judged-room}
+use Rattle.decoder_read.proofs.Insertion.{judged-held, judged-over, judged-full, judged-room}
 use borrow.Author.Needs.{needs}
-use Rattle.decoder.proofs.read.judge.Statement.{statement}
-use Rattle.decoder.proofs.read.judge.Tie as tie
+use Rattle.decoder_read.proofs.read.judge.Statement.{statement}
+use Rattle.decoder_read.proofs.read.judge.Tie as tie
 
--- `decoder::read::judge` meets its contract: the tests stand in the definition's order.
+-- `decoder_read::read::judge` meets its contract: the tests stand in the definition's order.
 
 ordered : (c : tie.After-shared-slice-known) → Ordered (c .before .args .m .now)
 ordered c = changes _ (record { small = λ k. omega (arith, c .shared-slice-known .given k); forms = c .before .pre .2 }) .ordered

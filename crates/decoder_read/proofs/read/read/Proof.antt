@@ -4,14 +4,14 @@ use borrow.Author.Tests.{not-true, not-false}
 use Rattle.integers.specs.Answers.{refusal}
 use Rattle.instructions.specs.Reading.{instructionAnswer}
 use Rattle.instructions.specs.declared.read.InstructionRead.{InstructionRead}
 use Rattle.decoder.proofs.Standing.{Stands, meets, carried}
-use Rattle.decoder.proofs.Instructions.{taken-fits, insert-index, insert-value, insert-named, insert-text, delete-index, delete-lists}
-use Rattle.decoder.proofs.Calling.{read-no-state, read-refused, read-by-index, read-by-string, read-delete, read-acknowledgement}
+use Rattle.decoder_read.proofs.Instructions.{taken-fits, insert-index, insert-value, insert-named, insert-text, delete-index, delete-lists}
+use Rattle.decoder_read.proofs.Calls.{read-no-state, read-refused, read-by-index, read-by-string, read-delete, read-acknowledgement}
 use borrow.Author.Needs.{needs}
-use Rattle.decoder.proofs.read.read.Statement.{statement}
-use Rattle.decoder.proofs.read.read.Tie as tie
+use Rattle.decoder_read.proofs.read.read.Statement.{statement}
+use Rattle.decoder_read.proofs.read.read.Tie as tie
 
--- `decoder::read::read` meets its contract: what was read is an instruction that its step takes.
+-- `decoder_read::read::read` meets its contract: what was read is an instruction that its step takes.
 
 stands : (c : tie.Else1) → Stands (c .before .before .before .before .before .args .m .now)
 stands c = record {

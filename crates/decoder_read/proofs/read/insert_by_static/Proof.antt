@@ -9,14 +9,14 @@ use Rattle.wire.proofs.TextBounds.{string-size}
 use Rattle.statics.specs.Table.{staticName}
 use Rattle.statics.proofs.Places.{name-most}
 use Rattle.table.specs.Changes.{inserted}
-use Rattle.decoder.specs.Steps.{judged, judgedNumber}
 use Rattle.decoder.proofs.Standing.{Stands, meets}
-use Rattle.decoder.proofs.Insertion.{Judgement, insert-refused, insert-opening, insert-done}
+use Rattle.decoder_read.specs.Steps.{judged, judgedNumber}
+use Rattle.decoder_read.proofs.Insertion.{Judgement, insert-refused, insert-opening, insert-done}
 use borrow.Author.Needs.{needs}
-use Rattle.decoder.proofs.read.insert_by_static.Statement.{statement}
-use Rattle.decoder.proofs.read.insert_by_static.Tie as tie
+use Rattle.decoder_read.proofs.read.insert_by_static.Statement.{statement}
+use Rattle.decoder_read.proofs.read.insert_by_static.Tie as tie
 
--- `decoder::read::insert_by_static` meets its contract: the name is the static entry's.
+-- `decoder_read::read::insert_by_static` meets its contract: the name is the static entry's.
 
 stands : (c : tie.After-slice-known) → Stands (c .before .args .m .now)
 stands c = record { small = λ k. omega (arith, c .slice-known .given k); forms = c .before .pre .0 .1 }

@@ -4,13 +4,13 @@ use native.Mathlib.Omega.{arith}
 use Rattle.state.specs.Layout.{statusAt}
 use Rattle.search.proofs.Fields.{row-field}
 use Rattle.changes.specs.DecoderChanges.{found}
 use Rattle.decoder.proofs.Standing.{Stands, meets, changes, long}
-use Rattle.decoder.proofs.Deletion.{list-fine, delete-vacant, delete-again, delete-kept}
+use Rattle.decoder_read.proofs.Deletion.{list-fine, delete-vacant, delete-again, delete-kept}
 use borrow.Author.Needs.{needs}
-use Rattle.decoder.proofs.read.delete.Statement.{statement}
-use Rattle.decoder.proofs.read.delete.Tie as tie
+use Rattle.decoder_read.proofs.read.delete.Statement.{statement}
+use Rattle.decoder_read.proofs.read.delete.Tie as tie
 
--- `decoder::read::delete` meets its contract: what the search and the row's status say is what the model answers.
+-- `decoder_read::read::delete` meets its contract: what the search and the row's status say is what the model answers.
 
 stands : (c : tie.After-slice-known) → Stands (c .before .args .m .now)
 stands c = record { small = λ k. omega (arith, c .slice-known .given k); forms = c .before .pre .0 .1 }

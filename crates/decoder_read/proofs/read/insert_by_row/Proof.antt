@@ -7,15 +7,15 @@ use Rattle.wire.proofs.TextBounds.{string-size}
 use Rattle.state.specs.Layout.{nameLengthAt}
 use Rattle.state.specs.Rows.{nameAt}
 use Rattle.search.proofs.Fields.{row-field}
-use Rattle.decoder.specs.Steps.{judged, judgedNumber}
 use Rattle.decoder.proofs.Standing.{Stands, meets, changes, long}
-use Rattle.decoder.proofs.Naming.{row-name}
-use Rattle.decoder.proofs.Insertion.{Judgement, insert-refused, insert-vacant, insert-opening, insert-done}
+use Rattle.decoder_read.specs.Steps.{judged, judgedNumber}
+use Rattle.decoder_read.proofs.Naming.{row-name}
+use Rattle.decoder_read.proofs.Insertion.{Judgement, insert-refused, insert-vacant, insert-opening, insert-done}
 use borrow.Author.Needs.{needs}
-use Rattle.decoder.proofs.read.insert_by_row.Statement.{statement}
-use Rattle.decoder.proofs.read.insert_by_row.Tie as tie
+use Rattle.decoder_read.proofs.read.insert_by_row.Statement.{statement}
+use Rattle.decoder_read.proofs.read.insert_by_row.Tie as tie
 
--- `decoder::read::insert_by_row` meets its contract: the name is that of the entry in the row.
+-- `decoder_read::read::insert_by_row` meets its contract: the name is that of the entry in the row.
 
 stands : (c : tie.After-slice-known) → Stands (c .before .args .m .now)
 stands c = record { small = λ k. omega (arith, c .slice-known .given k); forms = c .before .pre .0 .1 }

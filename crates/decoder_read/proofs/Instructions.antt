@@ -18,7 +18,7 @@ use Rattle.instructions.specs.declared.read.InstructionPlace.the-variants.{Inse
 use Rattle.instructions.specs.declared.read.InstructionRead.{InstructionRead}
 use Rattle.instructions.specs.declared.read.InstructionRead.the-variants.{Found}
 use Rattle.instructions.proofs.Bounds.{decoder-good}
-use Rattle.decoder.proofs.Takes.{taken-few}
+use Rattle.decoder_read.proofs.Takes.{taken-few}
 
 module _ (s : List ℕ) (r : InstructionRead) (told : r ≡ readForDecoder s) (p : InstructionPlace) (taken : ℕ) (found : r ≡ Found p taken) where
   pub taken-fits : taken ≤ 2322

@@ -1,4 +1,4 @@
--- The parts that the calls are made of.
+-- The parts that the read call is made of.
 use Prim.Native.Nat.{ℕ, _+_}
 use mathlib.Core.Option.{some}
 use mathlib.Core.List.{List, []}
@@ -14,8 +14,8 @@ use Rattle.search.specs.Search.{findFrom}
 use Rattle.search.specs.declared.find.Found.{Found}
 use Rattle.search.specs.declared.find.Found.the-variants.{At, Vacant}
 use Rattle.reply.specs.Result.{Result, stepped}
-use Rattle.decoder.specs.declared.read.Judged.{Judged}
-use Rattle.decoder.specs.declared.read.Judged.the-variants.{Room, Refused}
+use Rattle.decoder_read.specs.declared.read.Judged.{Judged}
+use Rattle.decoder_read.specs.declared.read.Judged.the-variants.{Room, Refused}
 
 -- an insert whose name is known, done on memory that forms a state
 abbrev pub namedInsert : List ℕ → ℕ → List ℕ → List ℕ → ℕ → Result

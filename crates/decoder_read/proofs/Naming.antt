@@ -28,8 +28,8 @@ use Rattle.search.specs.declared.place.EntryPlace.{EntryPlace}
 use Rattle.search.specs.declared.place.EntryPlace.the-variants.{Static, Dynamic, Nowhere}
 use Rattle.changes.specs.DecoderChanges.{found}
 use Rattle.reply.specs.Result.{stepped}
-use Rattle.decoder.specs.Steps.{namedInsert, indexedInsert}
 use Rattle.decoder.proofs.Standing.{Stands, Leaves, changes, stays}
+use Rattle.decoder_read.specs.Steps.{namedInsert, indexedInsert}
 
 module _ (m : List ℕ) (st : Stands m) where
   -- the name of the entry in a row has its length

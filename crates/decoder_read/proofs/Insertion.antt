@@ -23,10 +23,10 @@ use Rattle.search.specs.declared.find.Found.{Found}
 use Rattle.search.specs.declared.find.Found.the-variants.{At, Vacant}
 use Rattle.table.specs.Changes.{Opening, inserted}
 use Rattle.changes.specs.DecoderChanges.{missing}
-use Rattle.decoder.specs.declared.read.Judged.{Judged}
-use Rattle.decoder.specs.declared.read.Judged.the-variants.{Room, Refused}
-use Rattle.decoder.specs.Steps.{namedInsert, judgeFound, judged}
 use Rattle.decoder.proofs.Standing.{Stands, Leaves, steps, changes, low-limit, stays}
+use Rattle.decoder_read.specs.declared.read.Judged.{Judged}
+use Rattle.decoder_read.specs.declared.read.Judged.the-variants.{Room, Refused}
+use Rattle.decoder_read.specs.Steps.{namedInsert, judgeFound, judged}
 
 -- ---- the judge's ways
 

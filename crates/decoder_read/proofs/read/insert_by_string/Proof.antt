@@ -4,14 +4,14 @@ use native.Mathlib.Omega.{arith}
 use Rattle.integers.specs.Answers.{refusal}
 use Rattle.wire.specs.Text.{stringLength, stringBytes}
 use Rattle.wire.proofs.TextBounds.{string-size}
-use Rattle.decoder.specs.Steps.{judged, judgedNumber}
 use Rattle.decoder.proofs.Standing.{Stands, meets}
-use Rattle.decoder.proofs.Insertion.{Judgement, insert-refused, insert-opening, insert-done}
+use Rattle.decoder_read.specs.Steps.{judged, judgedNumber}
+use Rattle.decoder_read.proofs.Insertion.{Judgement, insert-refused, insert-opening, insert-done}
 use borrow.Author.Needs.{needs}
-use Rattle.decoder.proofs.read.insert_by_string.Statement.{statement}
-use Rattle.decoder.proofs.read.insert_by_string.Tie as tie
+use Rattle.decoder_read.proofs.read.insert_by_string.Statement.{statement}
+use Rattle.decoder_read.proofs.read.insert_by_string.Tie as tie
 
--- `decoder::read::insert_by_string` meets its contract: what was judged is what the model answers.
+-- `decoder_read::read::insert_by_string` meets its contract: what was judged is what the model answers.
 
 stands : (c : tie.After-slice-known) → Stands (c .before .args .m .now)
 stands c = record { small = λ k. omega (arith, c .slice-known .given k); forms = c .before .pre .0 .1 }

@@ -17,8 +17,8 @@ use Rattle.model.specs.Decoder.{Held, isSome, deleteEntry}
 use Rattle.state.specs.Layout.{statusAt}
 use Rattle.deletes.specs.Deletes.{appended}
 use Rattle.changes.specs.DecoderChanges.{found, missing}
-use Rattle.decoder.specs.Steps.{keptDelete}
 use Rattle.decoder.proofs.Standing.{Stands, Leaves, steps, changes, stays}
+use Rattle.decoder_read.specs.Steps.{keptDelete}
 
 pub list-fine : (s : List ℕ) (p : ListPlace) → InList s p → FineList (listOf s p)
 list-fine s p l =

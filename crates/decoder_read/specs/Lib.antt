@@ -1,0 +1,2 @@
+-- The decoder's read call.
+pub mod Steps

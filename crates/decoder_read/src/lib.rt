@@ -1,0 +1,2 @@
+// The decoder's read call: one management instruction, done on the table.
+pub mod read;
