@@ -93,7 +93,7 @@ module _ (s : List ℕ) (at : ℕ) where
       let t = string-good s next 2047 value after (sym f) in
       rw (literal-found s at _ e name next refl _ f value after refl)
       (good (Literal (flagOf (getD s at 0)) name value) after (omega (arith, g .0, t .after, t .ends)) (t .inside)
-      (flag-small (getD s at 0), g .2, t .text, t .short))
+      (flag-small (getD s at 0), g .3, t .text, t .short))
 
   good-literal : (r : NameRead) → r ≡ readName 6 s at → GoodRead s at (readLiteral s at)
   good-literal (NameRefused number) e = rw (literal-name-refused s at _ e number refl) tt

@@ -4,6 +4,7 @@ use mathlib.Core.Path.{_≡_, refl, sym, ap, ap₂, subst, _∙_}
 use Prim.Native.Nat.{ℕ, _≤_, _<_}
 use native.Mathlib.Omega.{arith}
 use mathlib.Core.Logic.{_⊎_, inl, inr, ⊎-elim}
+use mathlib.Core.Bool.{Bool, true, false}
 use mathlib.Core.List.{
   List,
   [],
@@ -19,8 +20,10 @@ use mathlib.Core.List.{
   Memᴰ·append-right,
 }
 use lib.ListN.{length}
-use borrow.Author.Tests.{le-leb, lt-leb}
-use Rattle.memory.proofs.Order.{split}
+use lib.Dec.{leb}
+use borrow.Author.Tests.{le-leb, lt-leb, leb-true}
+use Rattle.memory.proofs.Order.{split, either, not-both, pick-both, pick-true, pick-false}
+use Rattle.integers.specs.Integer.{largest}
 use Rattle.wire.specs.Name.{indexed as by-index, literal as by-bytes}
 use Rattle.statics.specs.Table.{Entry, entryAt}
 use Rattle.fields.specs.Form.{Field, Fine as FineField, AllFine as AllFineFields}
@@ -29,6 +32,7 @@ use Rattle.blocks.specs.Meaning.{
   Slot,
   vacant,
   holds,
+  isStatic,
   withStatics,
   FieldMeaning,
   field,
@@ -46,20 +50,44 @@ use Rattle.blocks.proofs.MeaningLaws.{meaning-nil, meaning-cons}
 
 -- ---- the lookup with the static table
 
-pub static-slot : (dynamic : ℕ → Slot) (i : ℕ) → i ≤ 61 → withStatics dynamic i ≡ holds (entryAt i)
-unfolding withStatics
-static-slot dynamic i h = simp (le-leb i 61 h)
+-- 0 is not static, 1 to 61 are, and none above
+pub static-zero : isStatic 0 ≡ false
+unfolding isStatic
+static-zero = refl
 
-pub dynamic-slot : (dynamic : ℕ → Slot) (i : ℕ) → 61 < i → withStatics dynamic i ≡ dynamic i
-unfolding withStatics
-dynamic-slot dynamic i h = simp (lt-leb i 61 h)
+pub static-within : (i : ℕ) → 1 ≤ i → i ≤ 61 → isStatic i ≡ true
+unfolding isStatic
+static-within i low high = pick-true (leb 1 i) (leb i 61) false (le-leb 1 i low) ∙ le-leb i 61 high
 
--- only an index of the header table is vacant
-pub vacant-dynamic : (dynamic : ℕ → Slot) (i : ℕ) → withStatics dynamic i ≡ vacant → (61 < i) × (dynamic i ≡ vacant)
+pub static-above : (i : ℕ) → 61 < i → isStatic i ≡ false
+unfolding isStatic
+static-above i high = pick-true (leb 1 i) (leb i 61) false (le-leb 1 i (omega arith)) ∙ lt-leb i 61 high
+
+-- and back
+pub within-static : (i : ℕ) → isStatic i ≡ true → (1 ≤ i) × (i ≤ 61)
+unfolding isStatic
+within-static i =
+    pick-both (λ (b : Bool). b ≡ true → (1 ≤ i) × (i ≤ 61)) (leb 1 i) (leb i 61) false
+    (λ low high. (leb-true 1 i low, leb-true i 61 high))
+    (λ low e. not-both false e refl)
+
+pub above-static : (i : ℕ) → 1 ≤ i → isStatic i ≡ false → 61 < i
+above-static i low e = split 61 i (λ h. h) (λ h. not-both (isStatic i) (static-within i low h) e)
+
+pub static-slot : (dynamic : ℕ → Slot) (i : ℕ) → isStatic i ≡ true → withStatics dynamic i ≡ holds (entryAt i)
+unfolding withStatics
+static-slot dynamic i h = pick-true (isStatic i) (holds (entryAt i)) (dynamic i) h
+
+pub dynamic-slot : (dynamic : ℕ → Slot) (i : ℕ) → isStatic i ≡ false → withStatics dynamic i ≡ dynamic i
+unfolding withStatics
+dynamic-slot dynamic i h = pick-false (isStatic i) (holds (entryAt i)) (dynamic i) h
+
+-- only an index that is not static is vacant
+pub vacant-dynamic : (dynamic : ℕ → Slot) (i : ℕ) → withStatics dynamic i ≡ vacant → (isStatic i ≡ false) × (dynamic i ≡ vacant)
 vacant-dynamic dynamic i e =
-    split 61 i
-    (λ h. (h, sym (dynamic-slot dynamic i h) ∙ e))
+    either (isStatic i)
     (λ h. let d = static-slot dynamic i h in let z : _≡_ {A = ℕ} 0 1 = cc in absurd (omega arith))
+    (λ h. (h, sym (dynamic-slot dynamic i h) ∙ e))
 
 -- ---- a slot, a field, a block
 
@@ -147,6 +175,20 @@ module _ (lookup : ℕ → Slot) where
         (λ j m. ⊎-elim (field-held r (w .0) (w .1) j) (v .3 j) (List·Memᴰ·append-cases (references r) m)),
         v .4,
       ))
+      (after-waits (fieldMeaning lookup r) (blockMeaning lookup rs) i (sym (meaning-cons lookup r rs) ∙ e))
+
+  -- and it is an index of the wire
+  field-low : (r : Representation) → Fine r → (i : ℕ) → fieldMeaning lookup r ≡ FieldMeaning.waits i → i ≤ largest
+  unfolding fieldMeaning
+  field-low (indexed j) h i e = omega (arith, slot-waits j (lookup j) _ i e .0, h .1)
+  field-low (literal flag (by-index j) value) h i e = omega (arith, slot-waits j (lookup j) _ i e .0, h .1 .1)
+  field-low (literal flag (by-bytes name) value) h i e = let z : _≡_ {A = ℕ} 0 1 = cc in absurd (omega arith)
+
+  pub waits-low : (rs : List Representation) → AllFine rs → (i : ℕ) → blockMeaning lookup rs ≡ BlockMeaning.waits i → i ≤ largest
+  waits-low [] h i e =
+      let d : list [] ≡ BlockMeaning.waits i = sym (meaning-nil lookup) ∙ e in let z : _≡_ {A = ℕ} 0 1 = cc in absurd (omega arith)
+  waits-low (r ∷ rs) h i e =
+      ⊎-elim (field-low r (h .0) i) (λ w. waits-low rs (h .1) i (w .2))
       (after-waits (fieldMeaning lookup r) (blockMeaning lookup rs) i (sym (meaning-cons lookup r rs) ∙ e))
 
   -- one field for each representation

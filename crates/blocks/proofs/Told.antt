@@ -1,16 +1,16 @@
--- Representations and whole blocks are refused by numbers of reading alone, along the definitions; so an answer 0 is that of a block that was read.
+-- Which numbers representations and whole blocks are refused by: 2, 3, 4, 5, 13, along the definitions. So an answer 0 is that of a block that was read.
 use mathlib.Core.Path.{_≡_, refl}
 use Prim.Native.Nat.{ℕ, zero, suc}
 use mathlib.Core.List.{List, [], _∷_, _++_}
 use lib.ListN.{length, getD}
 use lib.Dec.{ltb, leb}
 use Rattle.memory.proofs.Order.{pick-both, need-both}
-use Rattle.integers.specs.Answers.{Refuses}
+use Rattle.integers.specs.Answers.{truncated, too-large, packed, not-allowed, too-long}
 use Rattle.integers.specs.Integer.{readInt}
-use Rattle.integers.proofs.Told.{Told, int-told, told-on-int}
+use Rattle.integers.proofs.Told.{Told, One, wider, intRefusals, int-told, told-on-int}
 use Rattle.wire.specs.Text.{readString}
 use Rattle.wire.specs.Name.{readName}
-use Rattle.wire.proofs.Told.{string-told, name-told, told-on-string, told-on-name}
+use Rattle.wire.proofs.Told.{textRefusals, string-told, name-told, told-on-string, told-on-name}
 use Rattle.blocks.specs.Representation.{Representation}
 use Rattle.blocks.specs.Reading.{
   onRepresentation,
@@ -29,22 +29,25 @@ use Rattle.blocks.specs.declared.read.RepresentationPlace.{Representatio
 use Rattle.blocks.specs.declared.read.RepresentationRead.{RepresentationRead}
 use Rattle.blocks.specs.declared.read.RepresentationRead.the-variants.{Found, Refused}
 
+abbrev pub blockRefusals : List ℕ
+blockRefusals = truncated ∷ too-large ∷ packed ∷ not-allowed ∷ too-long ∷ []
+
 abbrev pub RepresentationTold : RepresentationRead → Type 0
 RepresentationTold (Found p next) = Unit {0}
-RepresentationTold (Refused m) = Refuses m
+RepresentationTold (Refused m) = One blockRefusals m
 
 module _ (s : List ℕ) (at : ℕ) where
   indexed-told : Told RepresentationTold (readIndexed s at)
   unfolding readIndexed
   indexed-told =
-      told-on-int RepresentationTold Refused (λ m r. r) (readInt 7 s at) (int-told 7 s at)
+      told-on-int RepresentationTold Refused (wider blockRefusals intRefusals tt) (readInt 7 s at) (int-told 7 s at)
       (λ i next. need-both (Told RepresentationTold) (ltb 0 i) (Refused 5) _ (λ e. record { told = tt }) (λ e. record { told = tt }))
 
   literal-told : Told RepresentationTold (readLiteral s at)
   unfolding readLiteral
   literal-told =
-      told-on-name RepresentationTold Refused (λ m r. r) (readName 6 s at) (name-told 6 s at)
-      (λ name next. told-on-string RepresentationTold Refused (λ m r. r) (readString s next 2047) (string-told s next 2047)
+      told-on-name RepresentationTold Refused (wider blockRefusals textRefusals tt) (readName 6 s at) (name-told 6 s at)
+      (λ name next. told-on-string RepresentationTold Refused (wider blockRefusals textRefusals tt) (readString s next 2047) (string-told s next 2047)
       (λ value after. record { told = tt }))
 
   pub representation-told : Told RepresentationTold (readRepresentation s at)
@@ -55,7 +58,7 @@ module _ (s : List ℕ) (at : ℕ) where
 
 abbrev pub BlockTold : BlockRead → Type 0
 BlockTold (block rs) = Unit {0}
-BlockTold (refused m) = Refuses m
+BlockTold (refused m) = One blockRefusals m
 
 told-on-representation : (r : RepresentationRead) (f : RepresentationPlace → ℕ → BlockRead) → Told RepresentationTold r
     → ((p : RepresentationPlace) (next : ℕ) → BlockTold (f p next)) → BlockTold (onRepresentation refused r f)
@@ -78,7 +81,7 @@ block-told s = need-both BlockTold (leb (length s) 16384) (refused 13) _ (λ e. 
 pub block-read : (s : List ℕ) → blockAnswer (readBlock s) .number ≡ 0 → (rs : List Representation) × (readBlock s ≡ block rs)
 block-read s = go (readBlock s) refl (block-told s)
   where
-    zero-not : (m : ℕ) → Refuses m → m ≡ 0 → ⊥
+    zero-not : (m : ℕ) → One blockRefusals m → m ≡ 0 → ⊥
     zero-not m r z = rw z at r
 
     go : (b : BlockRead) → readBlock s ≡ b → BlockTold b → blockAnswer b .number ≡ 0 → (rs : List Representation) × (readBlock s ≡ block rs)

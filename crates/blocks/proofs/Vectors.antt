@@ -12,7 +12,7 @@ use Rattle.statics.specs.Ascii.{bytes}
 use Rattle.statics.specs.Table.{entries, entryAt}
 use Rattle.blocks.specs.Representation.{indexed, literal, representationWire, blockWire}
 use Rattle.blocks.specs.Reading.{readIndexed, readLiteral, readRepresentation, block, refused, blockFrom, readBlock}
-use Rattle.blocks.specs.Meaning.{Slot, vacant, holds, withStatics, fieldMeaning, BlockMeaning, list, blockMeaning}
+use Rattle.blocks.specs.Meaning.{Slot, vacant, holds, isStatic, withStatics, fieldMeaning, BlockMeaning, list, blockMeaning}
 use Rattle.wire.specs.declared.name.NamePlace.the-variants.{Index}
 use Rattle.blocks.specs.declared.read.RepresentationPlace.the-variants.{Literal}
 use Rattle.blocks.specs.declared.read.RepresentationRead.the-variants.{Found}
@@ -45,5 +45,13 @@ pub meaning : (blockMeaning (withStatics (only (holds (record { name = bytes "h"
     ≡ list (record { flag = 0; name = bytes "h"; value = bytes "9" } ∷ record { flag = 0; name = bytes ":method"; value = bytes "GET" } ∷ []))
     × (blockMeaning (withStatics (only vacant)) (indexed 62 ∷ indexed 2 ∷ []) ≡ BlockMeaning.waits 62)
     × (blockMeaning (withStatics (only vacant)) [] ≡ list [])
-unfolding withStatics entryAt entries fieldMeaning blockMeaning
+unfolding isStatic withStatics entryAt entries fieldMeaning blockMeaning
 meaning = (refl, refl, refl)
+
+-- "Indexes 1 to 61 are static": over an empty header table 0 and 62 are vacant
+pub statics : (withStatics (λ i. vacant) 0 ≡ vacant)
+    × (withStatics (λ i. vacant) 1 ≡ holds (record { name = bytes ":authority"; value = [] }))
+    × (withStatics (λ i. vacant) 61 ≡ holds (record { name = bytes "www-authenticate"; value = [] }))
+    × (withStatics (λ i. vacant) 62 ≡ vacant)
+unfolding isStatic withStatics entryAt entries
+statics = (refl, refl, refl, refl)

@@ -1,5 +1,6 @@
 -- What a block means, over a lookup of entries by index: its fields, or the first index in byte order that is vacant.
 use Prim.Native.Nat.{ℕ}
+use mathlib.Core.Bool.{Bool, false}
 use mathlib.Core.List.{List, [], _∷_, _++_, List·Memᴰ}
 use lib.Dec.{leb}
 use Rattle.memory.specs.Choice.{pick}
@@ -13,9 +14,13 @@ pub data Slot : Type 0 where
   vacant : Slot
   holds : Entry → Slot
 
--- "Indexes 1 to 61 are static", all others the header table's
+-- "Indexes 1 to 61 are static."
+unfoldable pub isStatic : ℕ → Bool
+isStatic i = pick (leb 1 i) (leb i 61) false
+
+-- an index that is not static is the header table's
 unfoldable pub withStatics : (ℕ → Slot) → ℕ → Slot
-withStatics dynamic i = pick (leb i 61) (holds (entryAt i)) (dynamic i)
+withStatics dynamic i = pick (isStatic i) (holds (entryAt i)) (dynamic i)
 
 -- a field, or the vacant index that it names
 pub data FieldMeaning : Type 0 where

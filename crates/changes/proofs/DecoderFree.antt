@@ -14,7 +14,7 @@ use Rattle.model.specs.Parts.{Delete}
 use Rattle.model.specs.Decoder.{heldIndex, deleteIndex, Decoder, without}
 use Rattle.state.specs.Layout.{deletesPlace, deletePlace, countOf, deleteCount, statusAt}
 use Rattle.state.specs.Rows.{Row, textBytes}
-use Rattle.state.specs.Front.{Front, overlayFront}
+use Rattle.state.specs.Front.{Front, withRows, withDeletes, overlayFront}
 use Rattle.state.specs.DecoderState.{deleteBytes, deletesBytes, rowOfHeld, decoderFront, overlayDecoder}
 use Rattle.state_laws.proofs.FrontHolds.{FineFront, HoldsFront}
 use Rattle.state_laws.proofs.FrontRead.{read-count, read-deletes}
@@ -24,7 +24,7 @@ use Rattle.state_laws.proofs.HeldRows.{fits-few}
 use Rattle.state_laws.proofs.DecoderHolds.{HoldsDecoder}
 use Rattle.table.specs.Changes.{Removing, removed}
 use Rattle.deletes.specs.Deletes.{renumbered, Dropping, dropped}
-use Rattle.changes.proofs.Fronts.{withRows, withDeletes, over-front}
+use Rattle.changes.proofs.Fronts.{over-front}
 use Rattle.changes.proofs.FrontRows.{lowered}
 use Rattle.changes.proofs.FrontFits.{length-lowered, text-lowered, remove-fits, deletes-fit, renumber-fits}
 use Rattle.changes.proofs.FrontStores.{deletes-front}

@@ -10,11 +10,10 @@ use Rattle.model.specs.Parts.{Delete}
 use Rattle.model.specs.Decoder.{Held, heldIndex, Decoder, withEntries}
 use Rattle.state.specs.Layout.{heldOf, countOf}
 use Rattle.state.specs.Rows.{Row, rowsSize}
-use Rattle.state.specs.Front.{Front}
+use Rattle.state.specs.Front.{Front, withRows}
 use Rattle.state.specs.DecoderState.{rowOfHeld, decoderFront, overlayDecoder}
 use Rattle.state_laws.proofs.DecoderHolds.{HoldsDecoder}
 use Rattle.table.specs.Changes.{Opening, NamedHere, inserted}
-use Rattle.changes.proofs.Fronts.{withRows}
 use Rattle.changes.proofs.FrontFits.{newRow, insert-fits}
 use Rattle.changes.proofs.FrontOpening.{opening-front, named-front}
 use Rattle.changes.proofs.FrontInsert.{insert-front}

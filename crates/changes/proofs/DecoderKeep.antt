@@ -12,7 +12,7 @@ use Rattle.model.specs.Decoder.{heldIndex, Decoder}
 use Rattle.model.proofs.DecoderWays.{withDelete}
 use Rattle.state.specs.Layout.{deletesPlace, deletePlace, statusAt}
 use Rattle.state.specs.Rows.{Row}
-use Rattle.state.specs.Front.{Front, overlayFront}
+use Rattle.state.specs.Front.{Front, withRows, withDeletes, overlayFront}
 use Rattle.state.specs.DecoderState.{deleteBytes, deletesBytes, rowOfHeld, decoderFront, overlayDecoder}
 use Rattle.state_laws.proofs.FrontHolds.{FineFront, HoldsFront}
 use Rattle.state_laws.proofs.FrontOverlay.{front-beyond, holds-beyond}
@@ -21,7 +21,7 @@ use Rattle.state_laws.proofs.HeldRows.{fits-lists}
 use Rattle.state_laws.proofs.DecoderHolds.{HoldsDecoder}
 use Rattle.rows.specs.Rows.{statusSet}
 use Rattle.deletes.specs.Deletes.{appended}
-use Rattle.changes.proofs.Fronts.{withRows, withDeletes, over-front}
+use Rattle.changes.proofs.Fronts.{over-front}
 use Rattle.changes.proofs.FrontRows.{withStatus}
 use Rattle.changes.proofs.FrontFits.{status-fits, deletes-fit}
 use Rattle.changes.proofs.FrontStores.{deletes-front}

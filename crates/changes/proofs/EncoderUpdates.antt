@@ -10,11 +10,11 @@ use Rattle.memory.proofs.Order.{pick-both}
 use Rattle.marks.specs.Marks.{cleared}
 use Rattle.model.specs.Table.{Ascending, look, put, cut}
 use Rattle.model.specs.Parts.{Part, mark, streams}
-use Rattle.model.specs.Encoder.{Sent, sentIndex, Encoder, startEncoder, withSent, newSent, FineSent, asDeleted, deleteAt, referred}
+use Rattle.model.specs.Encoder.{Sent, sentIndex, Encoder, startEncoder, withSent, withWritten, newSent, FineSent, asDeleted, deleteAt, referred}
 use Rattle.model.proofs.Tables.{pick-yes, pick-no}
 use Rattle.state.specs.Layout.{encoderRole, marksPlace, heldOf, countOf}
 use Rattle.state.specs.Rows.{Row, rowsSize}
-use Rattle.state.specs.Front.{Front, overlayFront}
+use Rattle.state.specs.Front.{Front, withRows, withMarks, overlayFront}
 use Rattle.state.specs.EncoderState.{rowOfSent, encoderFront, referenceOver, referencesOver, overlayEncoder}
 use Rattle.state_laws.proofs.FrontHolds.{FineFront}
 use Rattle.state_laws.proofs.FrontRead.{read-held, read-count}
@@ -28,7 +28,6 @@ use Rattle.table.specs.Changes.{Opening, inserted, Removing, removed, started}
 use Rattle.rows.specs.Rows.{statusSet}
 use Rattle.deletes.specs.Deletes.{raised, unreferred}
 use Rattle.changes.specs.EncoderChanges.{referredAt}
-use Rattle.changes.proofs.Fronts.{withRows, withMarks}
 use Rattle.changes.proofs.FrontRows.{withStatus}
 use Rattle.changes.proofs.FrontFits.{newRow, insert-fits, remove-fits, status-fits, marks-fit}
 use Rattle.changes.proofs.FrontStores.{start-front}
@@ -109,7 +108,7 @@ module _ (E : Encoder) (m : List ℕ) (H : HoldsEncoder E m) where
   -- ---- a part written
 
   pub writes : (s : ℕ) (p : Part) → s < streams
-      → cleared m (marksPlace p) s ≡ overlayEncoder (record { limit = E .limit; entries = E .entries; written = mark s p (E .written) }) m
+      → cleared m (marksPlace p) s ≡ overlayEncoder (withWritten E (mark s p (E .written))) m
   unfolding overlayEncoder encoderFront
   writes s p h =
       let g : Front = withMarks f (mark s p (E .written)) in

@@ -9,11 +9,10 @@ use Rattle.memory.proofs.Order.{pick-both}
 use Rattle.model.specs.Parts.{Marks}
 use Rattle.model.specs.Table.{size, total}
 use Rattle.state.specs.Rows.{Row, textOf, textBytes, rowsSize}
-use Rattle.state.specs.Front.{Front}
+use Rattle.state.specs.Front.{Front, withRows, withDeletes, withMarks}
 use Rattle.state_laws.proofs.FrontHolds.{FineRow, FineRows, FineFront}
 use Rattle.state_laws.proofs.FrontLengths.{rowsSize-text, rowsSize-append, fine-append, fine-left, fine-right}
 use Rattle.table.specs.Changes.{freshFront}
-use Rattle.changes.proofs.Fronts.{withRows, withMarks, withDeletes}
 use Rattle.changes.proofs.FrontRows.{withStatus, lowered}
 
 -- the row of an entry that is put in

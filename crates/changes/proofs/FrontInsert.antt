@@ -11,13 +11,12 @@ use Rattle.memory.proofs.Places.{has-overlay, has-above, has-below, has-part}
 use Rattle.model.specs.Table.{size, total}
 use Rattle.state.specs.Layout.{rowPlace, textPlace, heldOf, countOf}
 use Rattle.state.specs.Rows.{Row, rowLine, rowBytes, rowsBytes, textBytes, rowsSize}
-use Rattle.state.specs.Front.{Front, overlayFront}
+use Rattle.state.specs.Front.{Front, withRows, overlayFront}
 use Rattle.state_laws.proofs.FrontHolds.{HoldsFront}
 use Rattle.state_laws.proofs.FrontLengths.{length-rowBytes, length-rowsBytes, rowsSize-text, rowsSize-append}
 use Rattle.state_laws.proofs.FrontRead.{read-held, read-count}
 use Rattle.table.specs.Changes.{textOpened, rowOpened, openedAt, opened, inserted}
 use Rattle.rows.specs.Rows.{laid, recorded, startOf}
-use Rattle.changes.proofs.Fronts.{withRows}
 use Rattle.changes.proofs.FrontRows.{lay-law}
 use Rattle.changes.proofs.FrontFits.{newRow, fine-after}
 use Rattle.changes.proofs.FrontStores.{record-of, length-record, recorded-is}

@@ -9,13 +9,13 @@ use Rattle.marks.specs.Marks.{cleared}
 use Rattle.model.specs.Parts.{Part, nontrailer, trailer, mark, markBoth}
 use Rattle.state.specs.Layout.{marksPlace, countOf}
 use Rattle.state.specs.Rows.{Row, rowsSize}
-use Rattle.state.specs.Front.{Front}
+use Rattle.state.specs.Front.{Front, withRows, withDeletes, withMarks}
 use Rattle.state_laws.proofs.FrontHolds.{HoldsFront}
 use Rattle.state_laws.proofs.FrontOverlay.{overlay-holds}
 use Rattle.table.specs.Changes.{inserted, removed, freshFront, started}
 use Rattle.rows.specs.Rows.{statusSet}
 use Rattle.deletes.specs.Deletes.{renumbered}
-use Rattle.changes.proofs.Fronts.{withRows, withMarks, withDeletes, kept-front}
+use Rattle.changes.proofs.Fronts.{kept-front}
 use Rattle.changes.proofs.FrontRows.{withStatus, lowered}
 use Rattle.changes.proofs.FrontFits.{newRow, fresh-fits, marks-fit, deletes-fit, renumber-fits, insert-fits, remove-fits, status-fits}
 use Rattle.changes.proofs.FrontStores.{deletes-front, start-front}

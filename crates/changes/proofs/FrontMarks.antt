@@ -14,10 +14,10 @@ use Rattle.marks.proofs.Clearing.{cleared-words}
 use Rattle.marks.proofs.Words.{words-length, words-same}
 use Rattle.model.specs.Parts.{Part, nontrailer, trailer, samePart, Marks, mark, markBoth}
 use Rattle.state.specs.Layout.{marksPlace}
-use Rattle.state.specs.Front.{Front, marksBytes, overlayFront}
+use Rattle.state.specs.Front.{Front, withMarks, marksBytes, overlayFront}
 use Rattle.state_laws.proofs.FrontHolds.{HoldsFront}
 use Rattle.changes.proofs.Within.{store-start, store-end}
-use Rattle.changes.proofs.Fronts.{withMarks, kept-front, then-front}
+use Rattle.changes.proofs.Fronts.{kept-front, then-front}
 use Rattle.changes.proofs.FrontFits.{marks-fit}
 use Rattle.changes.proofs.FrontStores.{marks-stored}
 

@@ -12,13 +12,12 @@ use Rattle.memory.proofs.Places.{has-right, has-overlay, has-below, has-part}
 use Rattle.model.specs.Table.{size, total}
 use Rattle.state.specs.Layout.{rowPlace, textPlace, heldOf, countOf, offsetAt, nameLengthAt, valueLengthAt}
 use Rattle.state.specs.Rows.{Row, rowBytes, rowsBytes, textOf, textBytes, rowsSize}
-use Rattle.state.specs.Front.{Front, overlayFront}
+use Rattle.state.specs.Front.{Front, withRows, overlayFront}
 use Rattle.state_laws.proofs.FrontHolds.{HoldsFront}
 use Rattle.state_laws.proofs.FrontLengths.{length-rowBytes, length-rowsBytes, length-text, rowsSize-text, rowsSize-append}
 use Rattle.state_laws.proofs.FrontRead.{read-held, read-count, read-split}
 use Rattle.table.specs.Changes.{removedAt, removed, Removing}
 use Rattle.rows.specs.Rows.{laid, recorded}
-use Rattle.changes.proofs.Fronts.{withRows}
 use Rattle.changes.proofs.FrontRows.{lay-law}
 use Rattle.changes.proofs.FrontFits.{fine-after}
 use Rattle.changes.proofs.FrontStores.{record-of, recorded-is}

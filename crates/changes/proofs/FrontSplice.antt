@@ -11,11 +11,10 @@ use Rattle.memory.proofs.Overlay.{overlay-comm, overlay-same}
 use Rattle.memory.proofs.Places.{has-left, has-right, has-above}
 use Rattle.state.specs.Layout.{rowPlace, textPlace}
 use Rattle.state.specs.Rows.{Row, rowsBytes, textBytes}
-use Rattle.state.specs.Front.{Front, marksBytes, overlayFront}
+use Rattle.state.specs.Front.{Front, withRows, marksBytes, overlayFront}
 use Rattle.state_laws.proofs.FrontHolds.{HoldsFront}
 use Rattle.state_laws.proofs.FrontLengths.{length-rowsBytes, rowsBytes-append, textBytes-append}
 use Rattle.changes.proofs.Within.{store-end}
-use Rattle.changes.proofs.Fronts.{withRows}
 use Rattle.changes.proofs.FrontStores.{record-of, length-record, record-head}
 
 -- the rows of two lists, the first from the offset 0

@@ -7,14 +7,13 @@ use Rattle.memory.specs.Bytes.{overlay}
 use Rattle.memory.proofs.Places.{has-left}
 use Rattle.state.specs.Layout.{rowPlace, countOf}
 use Rattle.state.specs.Rows.{Row, rowBytes, rowsBytes, textOf, textBytes}
-use Rattle.state.specs.Front.{Front, overlayFront}
+use Rattle.state.specs.Front.{Front, withRows, overlayFront}
 use Rattle.state_laws.proofs.FrontHolds.{HoldsFront}
 use Rattle.state_laws.proofs.FrontLengths.{length-rowBytes, length-rowsBytes, textBytes-append}
 use Rattle.state_laws.proofs.FrontRead.{read-count}
 use Rattle.rows.specs.Rows.{statusSet}
 use Rattle.deletes.specs.Deletes.{renumbered}
 use Rattle.changes.proofs.Within.{store-within}
-use Rattle.changes.proofs.Fronts.{withRows}
 use Rattle.changes.proofs.FrontRows.{withStatus, lowered, row-status, renumber-law}
 use Rattle.changes.proofs.FrontFits.{length-lowered, text-lowered}
 use Rattle.changes.proofs.FrontStores.{rows-stored}

@@ -11,13 +11,12 @@ use Rattle.memory.proofs.Places.{has-above}
 use Rattle.model.specs.Parts.{Marks}
 use Rattle.state.specs.Layout.{february}
 use Rattle.state.specs.Rows.{Row, rowsBytes, textBytes, rowsSize}
-use Rattle.state.specs.Front.{Front, headBytes, marksBytes, overlayFront}
+use Rattle.state.specs.Front.{Front, withRows, withDeletes, withMarks, headBytes, marksBytes, overlayFront}
 use Rattle.state_laws.proofs.FrontHolds.{HoldsFront}
 use Rattle.state_laws.proofs.FrontLengths.{length-headBytes, length-marksBytes, length-rowsBytes, rowsSize-text}
 use Rattle.table.specs.Changes.{freshFront, started}
 use Rattle.rows.specs.Rows.{recorded}
 use Rattle.changes.proofs.Within.{store-within}
-use Rattle.changes.proofs.Fronts.{withRows, withMarks, withDeletes}
 
 -- ---- what stands already
 

@@ -1,4 +1,4 @@
--- Fronts with other rows, marks or deletes, and one front over another: the parts of the second are stored over those of the first, each of the same length.
+-- One front over another: the parts of the second are stored over those of the first, each of the same length.
 use Prim.Native.Nat.{ℕ, _+_, _≤_}
 use mathlib.Core.Path.{_≡_, sym, ap, subst, _∙_}
 use native.Mathlib.Omega.{arith}
@@ -6,21 +6,11 @@ use mathlib.Core.List.{List}
 use lib.ListN.{length}
 use Rattle.memory.specs.Bytes.{overlay}
 use Rattle.memory.proofs.Overlay.{overlay-comm, overlay-overlay}
-use Rattle.model.specs.Parts.{Marks}
-use Rattle.state.specs.Rows.{Row, rowsBytes, textBytes}
+use Rattle.state.specs.Rows.{rowsBytes, textBytes}
 use Rattle.state.specs.Front.{Front, headBytes, marksBytes, overlayFront}
 use Rattle.state_laws.proofs.FrontHolds.{FineFront, HoldsFront}
 use Rattle.state_laws.proofs.FrontLengths.{length-headBytes, length-marksBytes, length-rowsBytes}
 use Rattle.state_laws.proofs.FrontOverlay.{overlay-holds}
-
-abbrev pub withRows : Front → List Row → Front
-withRows f rs = record { role = f .role; limit = f .limit; rows = rs; deletes = f .deletes; marks = f .marks }
-
-abbrev pub withMarks : Front → Marks → Front
-withMarks f k = record { role = f .role; limit = f .limit; rows = f .rows; deletes = f .deletes; marks = k }
-
-abbrev pub withDeletes : Front → ℕ → Front
-withDeletes f n = record { role = f .role; limit = f .limit; rows = f .rows; deletes = n; marks = f .marks }
 
 -- ---- memory that is a front over memory holds it
 

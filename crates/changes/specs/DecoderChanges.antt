@@ -10,7 +10,7 @@ use Rattle.instructions.specs.Instruction.{FineIndex, FineList}
 use Rattle.marks.specs.Marks.{cleared}
 use Rattle.model.specs.Table.{look, put}
 use Rattle.model.specs.Parts.{Part, nontrailer, trailer, mark, markBoth, Delete, streams}
-use Rattle.model.specs.Decoder.{Held, heldIndex, Decoder, heldSize, deleteOf, startDecoder, withEntries, withFinished, without}
+use Rattle.model.specs.Decoder.{Held, heldIndex, Decoder, heldSize, deleteOf, startDecoder, withEntries, withDeletes, withFinished, without}
 use Rattle.state.specs.Layout.{decoderLength, decoderRole, marksPlace, limitOf, heldOf, countOf, deleteCount, statusAt}
 use Rattle.state.specs.Rows.{nameAt, valueAt}
 use Rattle.state.specs.DecoderState.{deleteAt, decoderOf, overlayDecoder}
@@ -57,7 +57,7 @@ pub record DecoderChanges (m : List ℕ) (D : Decoder) : Type 0 where
   pub room : (x place : ℕ) → found m x place → statusAt m place ≡ 0 → deleteCount m < 128
   pub keep : (d : Delete) (place : ℕ) → found m (d .index) place → statusAt m place ≡ 0 → FineList (d .plain) → FineList (d .trailer)
       → appended m place d
-      ≡ overlayDecoder (record { limit = D .limit; entries = D .entries; deletes = D .deletes ++ (d ∷ []); finished = D .finished }) m
+      ≡ overlayDecoder (withDeletes D (D .deletes ++ (d ∷ []))) m
   pub removing : (x place : ℕ) → found m x place → Removing m place
   pub dropping : (x place k : ℕ) → found m x place → statusAt m place ≡ suc k → Dropping (removed m place) k
   pub free : (x place k : ℕ) → found m x place → statusAt m place ≡ suc k → dropped (removed m place) k ≡ overlayDecoder (without D x) m

@@ -11,7 +11,7 @@ use Rattle.memory.specs.Bytes.{Small}
 use Rattle.marks.specs.Marks.{cleared}
 use Rattle.model.specs.Table.{look, put, cut, lowest, vacantFrom}
 use Rattle.model.specs.Parts.{Part, mark, streams}
-use Rattle.model.specs.Encoder.{Sent, sentIndex, Encoder, sentSize, startEncoder, withSent, newSent, serves, servesBoth, deleteAt, referred}
+use Rattle.model.specs.Encoder.{Sent, sentIndex, Encoder, sentSize, startEncoder, withSent, withWritten, newSent, serves, servesBoth, deleteAt, referred}
 use Rattle.state.specs.Layout.{encoderLength, encoderRole, marksPlace, limitOf, heldOf, countOf}
 use Rattle.state.specs.Rows.{rowAt}
 use Rattle.state.specs.EncoderState.{sentOfRow, encoderOf, overlayEncoder}
@@ -69,7 +69,7 @@ pub record EncoderChanges (m : List ℕ) (E : Encoder) : Type 0 where
   pub free : (x place : ℕ) → found m x place → removed m place ≡ overlayEncoder (withSent E (cut sentIndex x (E .entries))) m
   -- ---- a part written
   pub write : (s : ℕ) (p : Part) → s < streams
-      → cleared m (marksPlace p) s ≡ overlayEncoder (record { limit = E .limit; entries = E .entries; written = mark s p (E .written) }) m
+      → cleared m (marksPlace p) s ≡ overlayEncoder (withWritten E (mark s p (E .written))) m
 
 -- of all memory that forms an encoder's state; and a fresh one
 pub record EncoderClaim : Type 0 where

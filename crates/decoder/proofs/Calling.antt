@@ -10,7 +10,7 @@ use Rattle.memory.proofs.Order.{need-true, need-false}
 use Rattle.integers.specs.Answers.{done, refusal, over-limit, out-of-turn, no-room, no-state}
 use Rattle.marks.specs.Marks.{cleared}
 use Rattle.model.specs.Parts.{nontrailer, trailer, streams}
-use Rattle.model.specs.Decoder.{endStream}
+use Rattle.model.specs.Decoder.{closeParts}
 use Rattle.state.specs.Layout.{decoderLength, decoderRole, marksPlace}
 use Rattle.state.specs.Forms.{formsDecoder}
 use Rattle.table.specs.Changes.{started}
@@ -44,11 +44,11 @@ module _ (m : List ℕ) (s : ℕ) where
 
   module _ (st : Stands m) where
     pub ended-above : streams ≤ s → Leaves (endedCall m s) (refusal out-of-turn) m
-    unfolding endedCall endStream
+    unfolding endedCall closeParts
     ended-above h = same (need-true _ _ _ (st .forms)) (stays m st _ out-of-turn (need-false _ _ _ (le-ltb s streams h)))
 
     pub ended-done : s < streams
         → Leaves (endedCall m s) (done 0 0) (cleared (cleared m (marksPlace nontrailer) s) (marksPlace trailer) s)
-    unfolding endedCall endStream
+    unfolding endedCall closeParts
     ended-done h =
         same (need-true _ _ _ (st .forms)) (steps m _ _ 0 0 _ (need-true _ _ _ (lt-ltb s streams h)) (changes m st .end s h))

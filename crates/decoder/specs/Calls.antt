@@ -9,8 +9,8 @@ use Rattle.instructions.specs.Reading.{readForDecoder, onInstruction, instructi
 use Rattle.blocks.specs.Representation.{Representation}
 use Rattle.blocks.specs.Reading.{BlockRead, block, readBlock}
 use Rattle.blocks.specs.Reading as reading
-use Rattle.model.specs.Parts.{partOf}
-use Rattle.model.specs.Decoder.{startDecoder, readInstruction, decodeBlock, endStream, collectEntry, enquireHold}
+use Rattle.model.specs.Parts.{partOf, ended}
+use Rattle.model.specs.Decoder.{startDecoder, readInstruction, decodeBlock, closeParts, collectEntry, enquireHold}
 use Rattle.state.specs.Layout.{decoderLength}
 use Rattle.state.specs.DecoderState.{decoderOf, overlayDecoder}
 use Rattle.state.specs.Forms.{formsDecoder}
@@ -44,7 +44,7 @@ blockCall m stream part s out =
 
 -- the stream has ended or was reset
 unfoldable pub endedCall : List ℕ → ℕ → Result
-endedCall m stream = need (formsDecoder m) (refused m [] no-state) (stepped overlayDecoder m [] (endStream (decoderOf m) stream))
+endedCall m stream = need (formsDecoder m) (refused m [] no-state) (stepped overlayDecoder m [] (closeParts (decoderOf m) ended stream))
 
 -- the hold enquiry: "enquiry 5, 8, 10"
 unfoldable pub holdCall : List ℕ → ℕ → Result

@@ -3,18 +3,18 @@
 use mathlib.Core.Path.{_≡_, refl, sym, ap, subst, _∙_}
 use Prim.Native.Nat.{ℕ, _+_, _≤_, _<_}
 use native.Mathlib.Omega.{arith}
+use mathlib.Core.Bool.{true, false}
 use mathlib.Core.Option.{Option, none, some}
 use mathlib.Core.List.{List, []}
 use lib.ListN.{length}
-use lib.Dec.{leb}
-use borrow.Author.Tests.{leb-true, leb-false}
 use Rattle.memory.proofs.Order.{pick-both}
 use Rattle.memory.proofs.Places.{length-part}
 use Rattle.integers.specs.Answers.{refusal, vacant}
 use Rattle.integers.specs.declared.number.TableIndex.{TableIndex}
 use Rattle.wire.specs.Name.{indexed}
 use Rattle.statics.specs.Table.{staticName}
-use Rattle.blocks.proofs.MeaningHeld.{static-slot, dynamic-slot}
+use Rattle.blocks.specs.Meaning.{isStatic}
+use Rattle.blocks.proofs.MeaningHeld.{within-static, static-slot, dynamic-slot}
 use Rattle.model.specs.Table.{look}
 use Rattle.model.specs.Decoder.{Held, heldIndex, slotIn, lookup, slotName, nameBytes, insertNamed}
 use Rattle.state.specs.Layout.{countOf, textPlace, offsetAt, nameLengthAt}
@@ -45,19 +45,19 @@ module _ (m : List ℕ) (st : Stands m) where
     named = nameBytes (lookup (decoderOf m)) (indexed y)
 
     abbrev Names : EntryPlace → Type 0
-    Names (Static i) = (i .value ≤ 61) × (i .value ≡ y) × (named ≡ some (staticName (i .value)))
+    Names (Static i) = ((1 ≤ i .value) × (i .value ≤ 61)) × (i .value ≡ y) × (named ≡ some (staticName (i .value)))
     Names (Dynamic row) = found m y row × (named ≡ some (nameAt m row))
     Names Nowhere = named ≡ none
 
-    static-named : y ≤ 61 → named ≡ some (staticName y)
+    static-named : isStatic y ≡ true → named ≡ some (staticName y)
     unfolding nameBytes lookup slotName
     static-named h = ap slotName (static-slot _ y h)
 
-    dynamic-named : (o : Option Held) → 61 < y → look heldIndex y (decoderOf m .entries) ≡ o → named ≡ slotName (slotIn o)
+    dynamic-named : (o : Option Held) → isStatic y ≡ false → look heldIndex y (decoderOf m .entries) ≡ o → named ≡ slotName (slotIn o)
     unfolding nameBytes lookup
     dynamic-named o h e = ap slotName (dynamic-slot _ y h ∙ ap slotIn e)
 
-    names-found : 61 < y → (f : Found) → findFrom m y (countOf m) 0 ≡ f → Names (placeFound f)
+    names-found : isStatic y ≡ false → (f : Found) → findFrom m y (countOf m) 0 ≡ f → Names (placeFound f)
     unfolding slotIn slotName
     names-found h (At row) e = (e, dynamic-named _ h (changes m st .here y row e .1))
     names-found h (Vacant place) e = dynamic-named none h (changes m st .nowhere y place e)
@@ -65,15 +65,15 @@ module _ (m : List ℕ) (st : Stands m) where
     names : Names (locate m y)
     unfolding locate
     names =
-        pick-both Names (leb y 61) (Static (record { value = y })) (placeFound (findFrom m y (countOf m) 0))
-        (λ e. (leb-true y 61 e, refl, static-named (leb-true y 61 e)))
-        (λ e. names-found (leb-false y 61 e) (findFrom m y (countOf m) 0) refl)
+        pick-both Names (isStatic y) (Static (record { value = y })) (placeFound (findFrom m y (countOf m) 0))
+        (λ e. (within-static y e, refl, static-named e))
+        (λ e. names-found e (findFrom m y (countOf m) 0) refl)
 
     module _ (p : EntryPlace) (told : p ≡ locate m y) where
       told-names : Names p
       told-names = subst Names (sym told) names
 
-      pub name-static : (i : TableIndex) → p ≡ Static i → (i .value ≤ 61) × (i .value ≡ y) × (named ≡ some (staticName (i .value)))
+      pub name-static : (i : TableIndex) → p ≡ Static i → ((1 ≤ i .value) × (i .value ≤ 61)) × (i .value ≡ y) × (named ≡ some (staticName (i .value)))
       name-static i e = subst Names e told-names
 
       pub name-row : (row : ℕ) → p ≡ Dynamic row → found m y row × (named ≡ some (nameAt m row))

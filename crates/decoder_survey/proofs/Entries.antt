@@ -4,18 +4,18 @@ use Prim.Native.Nat.{ℕ, _+_, _≤_, _<_}
 use mathlib.Core.Path.{_≡_, refl, sym, ap, ap₂, subst, _∙_}
 use native.Mathlib.Omega.{arith}
 use mathlib.Core.Logic.{⊎-elim}
+use mathlib.Core.Bool.{true, false}
 use mathlib.Core.List.{List, [], _∷_}
 use lib.ListN.{length}
-use lib.Dec.{leb}
 use types.Run.{OneOf}
 use denote.Enum.Declared
-use borrow.Author.Tests.{le-leb, lt-leb}
-use Rattle.memory.proofs.Order.{split, pick-true, pick-false}
+use Rattle.memory.proofs.Order.{pick-both}
 use Rattle.memory.proofs.Places.{length-part}
 use Rattle.statics.specs.Table.{Entry, placeOf}
 use Rattle.statics.specs.declared.table.StaticPlace.{StaticPlace}
 use Rattle.statics.proofs.Places.{name-length, value-length, name-most, value-most}
-use Rattle.blocks.specs.Meaning.{Slot, vacant, holds, withStatics}
+use Rattle.blocks.specs.Meaning.{Slot, vacant, holds, isStatic}
+use Rattle.blocks.proofs.MeaningHeld.{static-within, static-above, within-static, static-slot, dynamic-slot}
 use Rattle.model.specs.Table.{look}
 use Rattle.model.specs.Decoder.{heldIndex, slotIn, lookup}
 use Rattle.model.proofs.Tables.{nope}
@@ -66,20 +66,20 @@ pub record Located (m : List ℕ) (i : ℕ) (p : EntryPlace) : Type 0 where
   pub value : length (placeValue m p) ≤ 2047
 
 module _ (m : List ℕ) (S : Stands m) (i : ℕ) where
-  static : 0 < i → i ≤ 61 → Located m i (Static (record { value = i }))
-  unfolding lookup withStatics
-  static h k = record {
-    means = pick-true (leb i 61) _ _ (le-leb i 61 k);
-    inside = λ t. (h, k);
+  static : isStatic i ≡ true → Located m i (Static (record { value = i }))
+  unfolding lookup
+  static h = record {
+    means = static-slot _ i h;
+    inside = λ t. within-static i h;
     name = name-most i;
     value = omega (arith, value-most i);
   }
 
-  looked : 61 < i → lookup (decoderOf m) i ≡ slotIn (look heldIndex i (decoderOf m .entries))
-  unfolding lookup withStatics
-  looked h = pick-false (leb i 61) _ _ (lt-leb i 61 h)
+  looked : isStatic i ≡ false → lookup (decoderOf m) i ≡ slotIn (look heldIndex i (decoderOf m .entries))
+  unfolding lookup
+  looked h = dynamic-slot _ i h
 
-  pub dynamic : 61 < i → (f : Found) → findFrom m i (countOf m) 0 ≡ f → Located m i (placeFound f)
+  pub dynamic : isStatic i ≡ false → (f : Found) → findFrom m i (countOf m) 0 ≡ f → Located m i (placeFound f)
   unfolding slotIn
   dynamic h (At p) e =
       let r = changes m S .here i p e in
@@ -92,15 +92,15 @@ module _ (m : List ℕ) (S : Stands m) (i : ℕ) where
     value = omega arith;
   }
 
-  by-search : 0 < i → Located m i (locate m i)
+  by-search : Located m i (locate m i)
   unfolding locate
-  by-search h =
-      split 61 i
-      (λ k. rw (lt-leb i 61 k) (dynamic k (findFrom m i (countOf m) 0) refl))
-      (λ k. rw (le-leb i 61 k) (static h k))
+  by-search =
+      pick-both (Located m i) (isStatic i) (Static (record { value = i })) (placeFound (findFrom m i (countOf m) 0))
+      static
+      (λ h. dynamic h (findFrom m i (countOf m) 0) refl)
 
-  pub located : {p : EntryPlace} → 0 < i → p ≡ locate m i → Located m i p
-  located h e = subst (Located m i) (sym e) (by-search h)
+  pub located : {p : EntryPlace} → p ≡ locate m i → Located m i p
+  located e = subst (Located m i) (sym e) by-search
 
 -- ---- the lengths of what an index names
 
@@ -108,7 +108,7 @@ module _ (m : List ℕ) (S : Stands m) (i : ℕ) where
   pub static-lengths : 0 < i → i ≤ 61 → (p : StaticPlace) → p ≡ placeOf i → Of (p .name) (p .value) ≡ lengthsIn (lookup (decoderOf m) i)
   static-lengths h k p e =
       ap₂ Of (ap (λ (q : StaticPlace). q .name) e ∙ sym (name-length i h k)) (ap (λ (q : StaticPlace). q .value) e ∙ sym (value-length i h k))
-      ∙ sym (ap lengthsIn (static m S i h k .means))
+      ∙ sym (ap lengthsIn (static m S i (static-within i h k) .means))
 
   pub row-lengths : 61 < i → (p : ℕ) → findFrom m i (countOf m) 0 ≡ At p → rowLengths m p ≡ lengthsIn (lookup (decoderOf m) i)
   row-lengths h p e =
@@ -116,10 +116,10 @@ module _ (m : List ℕ) (S : Stands m) (i : ℕ) where
       let r = changes m S .here i p e .0 in
       ap₂ Of (sym (length-part m (3136 + offsetAt m p) (nameLengthAt m p) (name-end m o p r)))
       (sym (length-part m (3136 + offsetAt m p + nameLengthAt m p) (valueLengthAt m p) (value-end m o p r)))
-      ∙ sym (ap lengthsIn (dynamic m S i h (At p) e .means))
+      ∙ sym (ap lengthsIn (dynamic m S i (static-above i h) (At p) e .means))
 
   pub no-lengths : 61 < i → (p : ℕ) → findFrom m i (countOf m) 0 ≡ Vacant p → Nothing ≡ lengthsIn (lookup (decoderOf m) i)
-  no-lengths h p e = sym (ap lengthsIn (dynamic m S i h (Vacant p) e .means))
+  no-lengths h p e = sym (ap lengthsIn (dynamic m S i (static-above i h) (Vacant p) e .means))
 
 -- the entry that has these lengths
 pub record Sized (m : List ℕ) (i n v : ℕ) : Type 0 where
@@ -130,9 +130,9 @@ pub record Sized (m : List ℕ) (i n v : ℕ) : Type 0 where
   pub name-short : n ≤ 255
   pub value-short : v ≤ 2047
 
-module _ (m : List ℕ) (S : Stands m) (i : ℕ) (h : 0 < i) where
+module _ (m : List ℕ) (S : Stands m) (i : ℕ) where
   entry-short : (e : Entry) → lookup (decoderOf m) i ≡ holds e → (length (e .name) ≤ 255) × (length (e .value) ≤ 2047)
-  entry-short e d = go (locate m i) (located m S i h refl)
+  entry-short e d = go (locate m i) (located m S i refl)
     where
       same : (p : EntryPlace) → Located m i p → slotOf m p ≡ holds (entryOf m p) → (length (e .name) ≤ 255) × (length (e .value) ≤ 2047)
       same p L f =

@@ -123,10 +123,10 @@ module _ (m : List ℕ) (i : ℕ) (f : Entry → Field) {F : FieldMeaning} (N : 
 pub field-bound : (m : List ℕ) → Stands m → (s : List ℕ) (r : RepresentationPlace) → InBytes s r
     → length (fieldBytes (fieldAt m s r)) ≤ 2307
 field-bound m S s (Indexed index) h =
-    let L = located m S (index .value) (h .0) refl in
+    let L = located m S (index .value) refl in
     named-most m (index .value) _ (names-entry m (index .value)) (locate m (index .value)) L (L .name, L .value)
 field-bound m S s (Literal flag (Index index) value) h =
-    let L = located m S (index .value) (h .1 .0) refl in
+    let L = located m S (index .value) refl in
     named-most m (index .value) _ (names-name m (index .value) flag (stringBytes s value)) (locate m (index .value)) L
     (L .name, omega (arith, string-size s value (h .2), h .3))
 field-bound m S s (Literal flag (Text name) value) h =

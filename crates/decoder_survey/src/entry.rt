@@ -45,7 +45,7 @@ pub fn row_of(m: &[u8], index: TableIndex) -> Found
 
 // What this index names.
 pub fn place_of(m: &[u8], index: TableIndex) -> EntryPlace
-    requires { ⌜ Ordered (now m) ⌝ }
+    requires { ⌜ (1 ≤ index .value) × Ordered (now m) ⌝ }
     ensures { λ r. ⌜ r ≡ locate (now (m .entry)) (index .value) ⌝ }
 {
     if index.value <= LAST {

@@ -20,7 +20,7 @@ use Rattle.blocks.specs.Meaning.{references, blockReferences}
 use Rattle.model.specs.Table.{look}
 use Rattle.model.specs.Parts.{Part, nontrailer, trailer, mark, streams}
 use Rattle.model.specs.Decoder.{isSome}
-use Rattle.model.specs.Encoder.{Sent, sentIndex, Encoder, withSent, FineSent, refer}
+use Rattle.model.specs.Encoder.{Sent, sentIndex, Encoder, withSent, withWritten, FineSent, refer}
 use Rattle.model.proofs.Tables.{nope, pick-eq, pick-lt, pick-yes, pick-no, look-index, look-map}
 use Rattle.model.proofs.DecoderWays.{some-found}
 use Rattle.model.proofs.Order.{refer-index}
@@ -132,11 +132,11 @@ module _ (E : Encoder) (m : List ℕ) (H : HoldsEncoder E m) (s : ℕ) (p : Part
   -- the part marked as written besides
   after-written : (rs : List Representation)
       → cleared (after rs) (marksPlace p) s
-      ≡ overlayEncoder (record { limit = E .limit; entries = map (refer s p rs) (E .entries); written = mark s p (E .written) }) m
+      ≡ overlayEncoder (withWritten (withSent E (map (refer s p rs) (E .entries))) (mark s p (E .written))) m
   unfolding encoderFront
   after-written rs =
       let now : Encoder = state rs in
-      let next : Encoder = record { limit = E .limit; entries = now .entries; written = mark s p (E .written) } in
+      let next : Encoder = withWritten now (mark s p (E .written)) in
       writes now (after rs) (holds rs) s p below
       ∙ overlay-twice now next m (marks-fit (encoderFront now) (encoder-fine now (fits rs)) (mark s p (E .written))) (fits rs .forms .order) (λ e. e)
       (λ e. refl) (ap (map rowOfSent) (map-id (now .entries))) (sym (map-id (now .entries)))
@@ -207,6 +207,6 @@ module _ (m : List ℕ) (small : Small m) (forms : formsEncoder m ≡ true) (str
 
   pub entered-written : (rs : List Representation)
       → cleared (entered m stream part rs) (marksPlace (partAt part)) stream
-      ≡ overlayEncoder (record { limit = E .limit; entries = map (refer stream (partAt part) rs) (E .entries); written = mark stream (partAt part) (E .written) }) m
+      ≡ overlayEncoder (withWritten (withSent E (map (refer stream (partAt part) rs) (E .entries))) (mark stream (partAt part) (E .written))) m
   unfolding entered
   entered-written rs = after-written E m H stream (partAt part) below rs

@@ -12,7 +12,7 @@ use Rattle.memory.proofs.Order.{pick-both, pick-true}
 use Rattle.blocks.specs.Representation.{Representation}
 use Rattle.blocks.specs.Meaning.{references, blockReferences}
 use Rattle.model.specs.Parts.{Part, nontrailer, trailer}
-use Rattle.model.specs.Encoder.{Sent, mentions, referred, refer}
+use Rattle.model.specs.Encoder.{Sent, withPlain, withTrailer, mentions, referred, refer}
 use Rattle.model.proofs.Tables.{pick-yes, pick-no}
 use Rattle.model.proofs.Order.{refer-index}
 use Rattle.state.specs.EncoderState.{rowOfSent}
@@ -45,10 +45,10 @@ module _ (s : ℕ) where
   unfolding referred
   referred-again nontrailer e =
       let z : max (max (e .plain) (suc s)) (suc s) ≡ max (e .plain) (suc s) = omega arith in
-      ap (λ (n : ℕ). record { index = e .index; entry = e .entry; plain = n; trailer = e .trailer; deleted = e .deleted }) z
+      ap (withPlain e) z
   referred-again trailer e =
       let z : max (max (e .trailer) (suc s)) (suc s) ≡ max (e .trailer) (suc s) = omega arith in
-      ap (λ (n : ℕ). record { index = e .index; entry = e .entry; plain = e .plain; trailer = n; deleted = e .deleted }) z
+      ap (withTrailer e) z
 
   module _ (p : Part) where
     pub refer-row : (rs : List Representation) (e : Sent) → rowOfSent (refer s p rs e) ≡ rowOfSent e

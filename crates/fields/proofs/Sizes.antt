@@ -1,6 +1,6 @@
 -- How many bytes each form takes, and that the forms are laid over memory part by part. From the equations of `groupWire`.
 use mathlib.Core.Path.{_≡_, sym, ap, ap₂, _∙_}
-use Prim.Native.Nat.{ℕ, _+_, _/_, _%_, _≤_, _<_}
+use Prim.Native.Nat.{ℕ, _+_, _*_, _/_, _%_, _≤_, _<_}
 use native.Mathlib.Omega.{arith}
 use mathlib.Core.List.{List, [], _∷_}
 use lib.ListN.{length, set, length-append}
@@ -11,7 +11,7 @@ use Rattle.memory.specs.Bytes.{overlay}
 use Rattle.memory.proofs.Order.{split, pick-both}
 use Rattle.memory.proofs.Overlay.{overlay-append}
 use Rattle.integers.proofs.Writing.{last-group, next-group}
-use Rattle.fields.specs.Form.{Field, Fine, lengthForm, textForm, fieldForm, textSize, fieldSize}
+use Rattle.fields.specs.Form.{Field, Fine, AllFine, lengthForm, textForm, fieldForm, listForm, textSize, fieldSize}
 
 -- a length in one group, and in two
 pub form-one : (n : ℕ) → n < 128 → lengthForm n ≡ n ∷ []
@@ -44,6 +44,18 @@ pub fieldForm-length : (f : Field) → Fine f → length (fieldForm f) ≡ field
 unfolding fieldSize
 fieldForm-length f h =
     omega (arith, fieldForm-split f, textForm-length (f .name) (omega arith), textForm-length (f .value) (omega arith))
+
+-- and at most 2,307, so that a list has not more for each field
+fieldForm-most : (f : Field) → Fine f → length (fieldForm f) ≤ 2307
+unfolding fieldSize
+fieldForm-most f h =
+    omega (arith, fieldForm-length f h, textSize-bound (length (f .name)), textSize-bound (length (f .value)), h .name-short, h .value-short)
+
+pub listForm-most : (fs : List Field) → AllFine fs → length (listForm fs) ≤ 2307 * length fs
+unfolding listForm
+listForm-most [] h = omega arith
+listForm-most (f ∷ fs) h =
+    omega (arith, length-append (fieldForm f) (listForm fs), fieldForm-most f (h .0), listForm-most fs (h .1))
 
 -- every field has a byte
 pub fieldForm-positive : (f : Field) → 0 < length (fieldForm f)

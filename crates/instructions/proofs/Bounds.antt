@@ -1,4 +1,4 @@
--- Which instructions and places can be read: fine ones, of at least one byte, inside the input, and of the kinds that the end reads.
+-- Which instructions and places can be read: fine ones, of at least one byte and not many, inside the input, and of the kinds that the end reads.
 -- By cases along the equations of the readers.
 use mathlib.Core.Path.{_≡_, refl, sym, subst}
 use Prim.Native.Nat.{ℕ, _≤_}
@@ -61,6 +61,7 @@ use Rattle.instructions.proofs.Equations.{
 pub record ForDecoder (s : List ℕ) (p : InstructionPlace) (taken : ℕ) : Type 0 where
   pub some : 1 ≤ taken
   pub inside : taken ≤ length s
+  pub short : taken ≤ 2322
   pub kind : Manages (instructionOf s p)
   pub fine : Fine (instructionOf s p)
   pub bytes : InBytes s p
@@ -69,12 +70,13 @@ pub record ForDecoder (s : List ℕ) (p : InstructionPlace) (taken : ℕ) : Type
 pub record ForEncoder (s : List ℕ) (p : InstructionPlace) (taken : ℕ) : Type 0 where
   pub some : 1 ≤ taken
   pub inside : taken ≤ length s
+  pub short : taken ≤ 5
   pub index : TableIndex
   pub kind : p ≡ Acknowledge index
   pub fine : FineIndex (index .value)
 
 abbrev OfIndex : List ℕ → IndexRead → Type 0
-OfIndex s (Index i next) = (1 ≤ next) × (next ≤ length s) × FineIndex (i .value)
+OfIndex s (Index i next) = (1 ≤ next) × (next ≤ length s) × (next ≤ 5) × FineIndex (i .value)
 OfIndex s (IndexRefused number) = Unit {0}
 
 abbrev OfDecoder : List ℕ → InstructionRead → Type 0
@@ -91,10 +93,10 @@ of-index k s h (Value n next) e =
     let g = int-good k s 0 h _ e n next refl in
     split (n .value) 62
     (λ l. rw (index-low k s _ e n next refl l) tt)
-    (λ l. rw (index-found k s _ e n next refl l) (omega (arith, g .0), g .1, (l, g .2)))
+    (λ l. rw (index-found k s _ e n next refl l) (omega (arith, g .0), g .1, omega (arith, g .3), (l, g .2)))
 
 pub index-good : (k : ℕ) (s : List ℕ) → k ≤ 8 → (i : TableIndex) (next : ℕ) → readIndex k s ≡ Index i next
-    → (1 ≤ next) × (next ≤ length s) × FineIndex (i .value)
+    → (1 ≤ next) × (next ≤ length s) × (next ≤ 5) × FineIndex (i .value)
 index-good k s h i next d = subst (OfIndex s) d (of-index k s h (readInt k s 0) refl)
 
 -- a name and a list that were read can be said
@@ -127,9 +129,10 @@ module _ (s : List ℕ) where
               (record {
                 some = omega (arith, a .0, b .0, g .after, g .ends);
                 inside = g .inside;
+                short = omega (arith, a .2, b .2, g .near);
                 kind = tt;
-                fine = (a .2, fine-name s name (b .2), omega (arith, string-size s value (g .text), g .short));
-                bytes = (b .2, g .text, g .short);
+                fine = (a .3, fine-name s name (b .3), omega (arith, string-size s value (g .text), g .short));
+                bytes = (b .3, g .text, g .short);
               })
 
   of-delete : (r : IndexRead) → r ≡ readIndex 6 s → OfDecoder s (readDelete s)
@@ -150,8 +153,9 @@ module _ (s : List ℕ) where
               (record {
                 some = omega (arith, g .past, g .order);
                 inside = g .within;
+                short = omega (arith, a .2, b .close, g .close);
                 kind = tt;
-                fine = (a .2, fine-list s next plain after b, fine-list s after trailer taken g);
+                fine = (a .3, fine-list s next plain after b, fine-list s after trailer taken g);
                 bytes = (in-list s next plain after b, in-list s after trailer taken g);
               })
 
@@ -159,7 +163,7 @@ module _ (s : List ℕ) where
   of-acknowledgement (IndexRefused number) e = rw (acknowledgement-refused s _ e number refl) tt
   of-acknowledgement (Index i taken) e =
       let a = index-good 6 s (omega arith) i taken (sym e) in
-      rw (acknowledgement-found s _ e i taken refl) (record { some = a .0; inside = a .1; index = i; kind = refl; fine = a .2 })
+      rw (acknowledgement-found s _ e i taken refl) (record { some = a .0; inside = a .1; short = a .2; index = i; kind = refl; fine = a .3 })
 
   of-decoder : OfDecoder s (readForDecoder s)
   of-decoder =

@@ -1,4 +1,5 @@
--- Which values and places a number that was read can have: the place after it is past its own and in the input, and the value is not too large.
+-- Which values and places a number that was read can have: the place after it is past its own, at most five bytes on and in the input, and the
+-- value is not too large.
 -- By cases along the equations of `readInt` and `groups`.
 use mathlib.Core.Path.{_≡_, refl, sym, subst, _∙_}
 use Prim.Native.Nat.{ℕ, zero, suc, _+_, _-_, _*_, _%_, _^_, _≤_, _<_}
@@ -18,21 +19,22 @@ use Rattle.integers.proofs.Groups.{groups-short, groups-last, groups-mo
 
 -- what an answer says of the number at the place at
 abbrev pub Good : List ℕ → ℕ → IntRead → Type 0
-Good s at (Value n next) = (at < next) × (next ≤ length s) × (n .value ≤ largest)
+Good s at (Value n next) = (at < next) × (next ≤ length s) × (n .value ≤ largest) × (next ≤ at + 5)
 Good s at (Refused number) = Unit {0}
 
-good-fin : (s : List ℕ) (at v next : ℕ) → at < next → next ≤ length s → Good s at (finished v next)
-good-fin s at v next h k = pick-both (Good s at) (leb v largest) (value v next) (Refused 3) (λ e. (h, k, leb-true v largest e)) (λ e. tt)
+good-fin : (s : List ℕ) (at v next : ℕ) → at < next → next ≤ length s → next ≤ at + 5 → Good s at (finished v next)
+good-fin s at v next h k l = pick-both (Good s at) (leb v largest) (value v next) (Refused 3) (λ e. (h, k, leb-true v largest e, l)) (λ e. tt)
 
-good-groups : (s : List ℕ) (n at v w from : ℕ) → from ≤ at → Good s from (groups n s at v w)
-good-groups s zero at v w from h = rw (groups-none s at v w 0 (omega arith)) tt
-good-groups s (suc n) at v w from h =
+-- groups of a number that began at the place from: there are at most four
+good-groups : (s : List ℕ) (n at v w from : ℕ) → from ≤ at → at + n ≤ from + 5 → Good s from (groups n s at v w)
+good-groups s zero at v w from h m = rw (groups-none s at v w 0 (omega arith)) tt
+good-groups s (suc n) at v w from h m =
     split at (length s)
     (λ l. split (getD s at 0) 128
     (λ k. rw (groups-last s at v w (suc n) (omega arith) l _ refl k)
-    (good-fin s from (v + getD s at 0 % 128 * w) (at + 1) (omega arith) (omega arith)))
+    (good-fin s from (v + getD s at 0 % 128 * w) (at + 1) (omega arith) (omega arith) (omega arith)))
     (λ k. rw (groups-more s at v w (suc n) (omega arith) l _ refl k, sub-one)
-    (good-groups s n (at + 1) (v + getD s at 0 % 128 * w) (w * 128) from (omega arith))))
+    (good-groups s n (at + 1) (v + getD s at 0 % 128 * w) (w * 128) from (omega arith) (omega arith))))
     (λ l. rw (groups-short s at v w (suc n) (omega arith) l) tt)
 
 pub good-int : (k : ℕ) (s : List ℕ) (at : ℕ) → k ≤ 8 → Good s at (readInt k s at)
@@ -40,11 +42,11 @@ good-int k s at h =
     let p : 2 ^ k ≤ 2 ^ 8 = pow-mono h in
     split at (length s)
     (λ l. split (getD s at 0 % 2 ^ k) (2 ^ k - 1)
-    (λ d. rw (readInt-small k s at l _ _ refl refl d) (omega arith, omega arith, omega arith))
-    (λ d. rw (readInt-groups k s at l _ _ refl refl d) (good-groups s 4 (at + 1) (getD s at 0 % 2 ^ k) 1 at (omega arith))))
+    (λ d. rw (readInt-small k s at l _ _ refl refl d) (omega arith, omega arith, omega arith, omega arith))
+    (λ d. rw (readInt-groups k s at l _ _ refl refl d) (good-groups s 4 (at + 1) (getD s at 0 % 2 ^ k) 1 at (omega arith) (omega arith))))
     (λ l. rw (readInt-short k s at l) tt)
 
 -- the same of an answer that is that number
 pub int-good : (k : ℕ) (s : List ℕ) (at : ℕ) → k ≤ 8 → (r : IntRead) → r ≡ readInt k s at → (n : WireInt) (next : ℕ) → r ≡ Value n next
-    → (at < next) × (next ≤ length s) × (n .value ≤ largest)
+    → (at < next) × (next ≤ length s) × (n .value ≤ largest) × (next ≤ at + 5)
 int-good k s at h r e n next d = subst (Good s at) (sym e ∙ d) (good-int k s at h)

@@ -1,11 +1,14 @@
--- An integer is refused by numbers of reading alone; so is what follows an integer, if its own refusals and its rest are.
--- Along the definitions: a choice has what both of its ways have.
+-- Which numbers an integer is refused by: 2 and 3. What follows one is refused by these and by its own.
+-- Along the definitions: a choice has what both of its ways have. Each kind of reading has its list; a shorter list goes into a longer one.
 use Prim.Native.Nat.{ℕ, zero, suc, _+_, _-_, _*_, _%_, _^_}
-use mathlib.Core.List.{List}
+use mathlib.Core.Bool.{Bool, true, false}
+use mathlib.Core.List.{List, [], _∷_}
 use lib.ListN.{length, getD}
-use lib.Dec.{ltb, leb}
-use Rattle.memory.proofs.Order.{pick-both}
-use Rattle.integers.specs.Answers.{Refuses}
+use lib.Dec.{T, ltb, leb, eqb}
+use borrow.Author.Tests.{eqb-true}
+use Rattle.memory.specs.Choice.{pick}
+use Rattle.memory.proofs.Order.{either, pick-both}
+use Rattle.integers.specs.Answers.{among, truncated, too-large}
 use Rattle.integers.specs.Integer.{onInt, value, largest, finished, groups, readInt}
 use Rattle.integers.specs.declared.integer.IntRead.{IntRead}
 use Rattle.integers.specs.declared.integer.IntRead.the-variants.{Value, Refused}
@@ -14,9 +17,37 @@ use Rattle.integers.specs.declared.integer.IntRead.the-variants.{Value, 
 pub record Told {X : Type 0} (Fine : X → Type 0) (x : X) : Type 0 where
   pub told : Fine x
 
+-- m is one of these numbers
+abbrev pub One : List ℕ → ℕ → Type 0
+One ns m = T (among ns m)
+
+-- what each of the numbers ks passes, one of them passes
+abbrev pub every : (ℕ → Bool) → List ℕ → Bool
+every test [] = true
+every test (k ∷ ks) = pick (test k) (every test ks) false
+
+pub one-passes : (test : ℕ → Bool) (ks : List ℕ) → T (every test ks) → (m : ℕ) → One ks m → T (test m)
+one-passes test [] a m t = absurd t
+one-passes test (k ∷ ks) a m t =
+    either (test k)
+    (λ e. pick-both (λ (b : Bool). T b → T (test m)) (eqb m k) true (among ks m)
+    (λ d u. rw (eqb-true m k d, e) tt) (λ d u. one-passes test ks (rw e at a) m u) t)
+    (λ e. absurd (rw e at a))
+
+-- each of the numbers ks is one of ns
+abbrev pub covers : List ℕ → List ℕ → Bool
+covers ns ks = every (among ns) ks
+
+pub wider : (ns ks : List ℕ) → T (covers ns ks) → (m : ℕ) → One ks m → One ns m
+wider ns ks = one-passes (among ns) ks
+
+-- "bytes run out", "too large or too long"
+abbrev pub intRefusals : List ℕ
+intRefusals = truncated ∷ too-large ∷ []
+
 abbrev pub IntTold : IntRead → Type 0
 IntTold (Value n next) = Unit {0}
-IntTold (Refused m) = Refuses m
+IntTold (Refused m) = One intRefusals m
 
 finished-told : (v next : ℕ) → Told IntTold (finished v next)
 finished-told v next = pick-both (Told IntTold) (leb v largest) (value v next) (Refused 3) (λ e. record { told = tt }) (λ e. record { told = tt })
@@ -42,7 +73,7 @@ int-told k s at =
     (λ e. record { told = tt })
 
 -- an integer, then what follows
-pub told-on-int : {X : Type 0} (Fine : X → Type 0) (refused : ℕ → X) → ((m : ℕ) → Refuses m → Fine (refused m))
+pub told-on-int : {X : Type 0} (Fine : X → Type 0) (refused : ℕ → X) → ((m : ℕ) → One intRefusals m → Fine (refused m))
     → (r : IntRead) {f : ℕ → ℕ → X} → Told IntTold r → ((v next : ℕ) → Told Fine (f v next)) → Told Fine (onInt refused r f)
 told-on-int Fine refused h (Value n next) k g = g (n .value) next
 told-on-int Fine refused h (Refused m) k g = record { told = h m (k .told) }

@@ -2,7 +2,7 @@
 use Prim.Native.Nat.{ℕ}
 use mathlib.Core.Bool.{Bool, true, false}
 use mathlib.Core.List.{List, [], _∷_}
-use lib.Dec.{T, eqb}
+use lib.Dec.{eqb}
 use Rattle.memory.specs.Choice.{pick}
 
 -- an answer: its number, and the numbers told with it. "A told number not named here for the answer is 0."
@@ -89,7 +89,3 @@ no-state = 17
 abbrev pub among : List ℕ → ℕ → Bool
 among [] n = false
 among (m ∷ ms) n = pick (eqb n m) true (among ms n)
-
--- what a reading refuses by: "the first of 2, 3, 4, 5, 13, 14 met"
-abbrev pub Refuses : ℕ → Type 0
-Refuses n = T (among (truncated ∷ too-large ∷ packed ∷ not-allowed ∷ too-long ∷ bad-stream-list ∷ []) n)

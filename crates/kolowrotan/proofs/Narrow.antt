@@ -22,10 +22,10 @@ use Rattle.blocks.specs.Meaning as meaning
 use Rattle.blocks.specs.Reading.{BlockRead, block, readBlock}
 use Rattle.blocks.specs.Reading as reading
 use Rattle.model.specs.Table.{size, look}
-use Rattle.model.specs.Parts.{Part, partOf, inTurn, Delete, streams}
+use Rattle.model.specs.Parts.{Part, partOf, ended, inTurn, Delete, streams}
 use Rattle.model.specs.Outcome.{Outcome, refuse}
 use Rattle.model.specs.Decoder.{Decoder, heldIndex, heldSize, lookup, deleteOf, nameBytes, isSome, insertNamed, deleteEntry, readInstruction}
-use Rattle.model.specs.Decoder.{giveFields, decodePart, decodeBlock, endStream, holdOf, enquireHold, Held, nextFreed, freeEntry, collectEntry}
+use Rattle.model.specs.Decoder.{giveFields, decodePart, decodeBlock, closeParts, holdOf, enquireHold, Held, nextFreed, freeEntry, collectEntry}
 use Rattle.state.specs.Layout.{decoderLength}
 use Rattle.state.specs.DecoderState.{decoderOf, overlayDecoder}
 use Rattle.state.specs.Forms.{formsDecoder}
@@ -79,8 +79,8 @@ block-narrow D s part rs room = go (partOf part)
         step (ltb s streams) _ _ _
         (step (inTurn (D .finished) s p) _ _ _ (give p (blockMeaning (lookup D) rs)))
 
-end-narrow : (D : Decoder) (s : ℕ) → Narrow (endStream D s .answer)
-unfolding endStream
+end-narrow : (D : Decoder) (s : ℕ) → Narrow (closeParts D ended s .answer)
+unfolding closeParts
 end-narrow D s = step (ltb s streams) _ _ _ (omega arith)
 
 hold-narrow : (D : Decoder) (i : ℕ) → Narrow (enquireHold D i .answer)

@@ -27,7 +27,7 @@ use Rattle.instructions.proofs.Bounds.{decoder-good}
 use Rattle.instructions.proofs.Lengths.{SmallName, SmallText}
 use Rattle.blocks.specs.Reading.{BlockRead, readBlock}
 use Rattle.blocks.specs.Reading as blocks
-use Rattle.model.specs.Parts.{partOf}
+use Rattle.model.specs.Parts.{partOf, ended}
 use Rattle.model.specs.Outcome.{outputBytes, refuse}
 use Rattle.model.specs.Decoder.{Decoder, startDecoder, readInstruction, decodeBlock}
 use Rattle.model.specs.DecoderCalls.{decoderCall}
@@ -76,7 +76,7 @@ fine-decoder D (calls.DecoderCall.block stream part s out) =
     go : (r : BlockRead) → FineCall (readBlockCall stream part (length out) r)
     go (blocks.BlockRead.block rs) = tt
     go (blocks.BlockRead.refused number) = tt
-fine-decoder D (calls.DecoderCall.ended stream) = tt
+fine-decoder D (calls.DecoderCall.close k stream) = tt
 fine-decoder D (calls.DecoderCall.collect out) = tt
 fine-decoder D (calls.DecoderCall.hold index) = tt
 
@@ -93,7 +93,7 @@ small-decoder-call D (calls.DecoderCall.block stream part s out) b =
     go : (r : BlockRead) → SmallDecoderCall (readBlockCall stream part (length out) r)
     go (blocks.BlockRead.block rs) = tt
     go (blocks.BlockRead.refused number) = tt
-small-decoder-call D (calls.DecoderCall.ended stream) b = tt
+small-decoder-call D (calls.DecoderCall.close k stream) b = tt
 small-decoder-call D (calls.DecoderCall.collect out) b = tt
 small-decoder-call D (calls.DecoderCall.hold index) b = tt
 
@@ -145,7 +145,7 @@ module _ (m : List ℕ) (small : Small m) (forms : formsDecoder m ≡ true) wher
       go true (blocks.BlockRead.block rs) = refl
       go true (blocks.BlockRead.refused number) = refused-step out number
       go false r = refused-step out out-of-turn
-  same-decoder (calls.DecoderCall.ended stream) = need-true (formsDecoder m) _ _ forms
+  same-decoder (calls.DecoderCall.close ended stream) = need-true (formsDecoder m) _ _ forms
   same-decoder (calls.DecoderCall.collect out) = need-true (formsDecoder m) _ _ forms
   same-decoder (calls.DecoderCall.hold index) = need-true (formsDecoder m) _ _ forms
 

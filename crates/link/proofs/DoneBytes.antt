@@ -14,7 +14,7 @@ use Rattle.integers.specs.Answers.{Answer}
 use Rattle.model.specs.Outcome.{Outcome, outputBytes}
 use Rattle.model.specs.Promises.{Unchanged, Tells}
 use Rattle.reply.specs.Result.{Result}
-use Rattle.link.specs.Claims.{doneBytes}
+use Rattle.link.specs.Calls.{doneBytes}
 
 pub done-bytes : {S : Type 0} (s : S) (o : Outcome S) (lent : List ℕ) (r : Result) → r .answer ≡ o .answer
     → r .output ≡ overlay lent 0 (outputBytes (o .output)) → Unchanged s o → Tells (length lent) o → doneBytes r ≡ outputBytes (o .output)

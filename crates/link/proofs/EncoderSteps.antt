@@ -23,7 +23,7 @@ use Rattle.instructions.specs.declared.read.InstructionPlace.the-variants.{Inse
 use Rattle.instructions.specs.declared.read.InstructionRead.{InstructionRead}
 use Rattle.instructions.specs.declared.read.InstructionRead.the-variants.{Found, Refused}
 use Rattle.instructions.proofs.Bounds.{encoder-good}
-use Rattle.instructions.proofs.Told.{InstructionTold, encoder-told}
+use Rattle.instructions.proofs.Told.{encoderRefusals, InstructionTold, encoder-told}
 use Rattle.blocks.specs.Reading.{readBlock}
 use Rattle.blocks.proofs.Back.{block-back}
 use Rattle.model.specs.Parts.{partOf}
@@ -52,11 +52,11 @@ unlike r a e z = rw e z
 
 -- ---- an insert or a delete
 module _ (c : EncoderCall) (speaks : Speaks c) (r : Result) where
-  unsaid : (a : Answer) → eqb (a .number) 0 ≡ false → r .answer ≡ a → TiedStep (Event.wrote c r) model.quiet
-  unsaid a z e = idle-step (Event.wrote c r) (quiet-speech c r speaks (done-none r (unlike r a e z)))
+  unsaid : (a : Answer) → eqb (a .number) 0 ≡ false → r .answer ≡ a → TiedStep (Event.byEncoder c r) model.quiet
+  unsaid a z e = idle-step (Event.byEncoder c r) (quiet-speech c r speaks (done-none r (unlike r a e z)))
 
   saying : (out : List ℕ) (i : Instruction) (second : ℕ) → Manages i × Fine i → length (instructionWire i) ≤ length out
-      → r .answer ≡ done (length (instructionWire i)) second → r .output ≡ overlay out 0 (instructionWire i) → TiedStep (Event.wrote c r) (model.said i)
+      → r .answer ≡ done (length (instructionWire i)) second → r .output ≡ overlay out 0 (instructionWire i) → TiedStep (Event.byEncoder c r) (model.said i)
   saying out i second f h a o = record {
     step = said c r i (record { speaks = speaks; manages = f .0; fine = f .1; bytes = done-some r out (instructionWire i) second h a o });
     byte = refl;
@@ -65,11 +65,11 @@ module _ (c : EncoderCall) (speaks : Speaks c) (r : Result) where
 
 module _ (E : Encoder) (F : FormsEncoder E) (r : Result) where
   insert-step : (name value out : List ℕ) → Left r out (insertEntry E name value (length out))
-      → TiedStep (Event.wrote (calls.EncoderCall.insert name value out) r) (saidBy (insertEntry E name value (length out) .output))
+      → TiedStep (Event.byEncoder (calls.EncoderCall.insert name value out) r) (saidBy (insertEntry E name value (length out) .output))
   unfolding saidBy outputBytes encoderCall
   insert-step name value out =
       insert-ways
-      (λ (o : Outcome Encoder). insertEntry E name value (length out) ≡ o → Left r out o → TiedStep (Event.wrote c r) (saidBy (o .output)))
+      (λ (o : Outcome Encoder). insertEntry E name value (length out) ≡ o → Left r out o → TiedStep (Event.byEncoder c r) (saidBy (o .output)))
       E (λ a z e l. unsaid c tt r a z (l .answer)) name value (length out)
       (λ i d n v fits few room e l.
       saying c tt r out _ i
@@ -80,11 +80,11 @@ module _ (E : Encoder) (F : FormsEncoder E) (r : Result) where
       c = calls.EncoderCall.insert name value out
 
   delete-step : (index : ℕ) (out : List ℕ) → Left r out (deleteSent E index (length out))
-      → TiedStep (Event.wrote (calls.EncoderCall.delete index out) r) (saidBy (deleteSent E index (length out) .output))
+      → TiedStep (Event.byEncoder (calls.EncoderCall.delete index out) r) (saidBy (deleteSent E index (length out) .output))
   unfolding saidBy outputBytes encoderCall
   delete-step index out =
       delete-ways
-      (λ (o : Outcome Encoder). deleteSent E index (length out) ≡ o → Left r out o → TiedStep (Event.wrote c r) (saidBy (o .output)))
+      (λ (o : Outcome Encoder). deleteSent E index (length out) ≡ o → Left r out o → TiedStep (Event.byEncoder c r) (saidBy (o .output)))
       E (λ a z e l. unsaid c tt r a z (l .answer)) index (length out)
       (λ x there still room e l.
       saying c tt r out _ 0
@@ -99,17 +99,17 @@ module _ (E : Encoder) (F : FormsEncoder E) (r : Result) (stream part : ℕ) (s 
   abbrev write : EncoderCall
   write = calls.EncoderCall.block stream part s out
 
-  unwritten : (n : ℕ) → (n ≡ 0 → ⊥) → r .answer .number ≡ n → TiedStep (Event.wrote write r) model.quiet
-  unwritten n f e = idle-step (Event.wrote write r) (quiet-block stream part s out r (refused-number r (λ z. f (sym e ∙ z))))
+  unwritten : (n : ℕ) → (n ≡ 0 → ⊥) → r .answer .number ≡ n → TiedStep (Event.byEncoder write r) model.quiet
+  unwritten n f e = idle-step (Event.byEncoder write r) (quiet-block stream part s out r (refused-number r (λ z. f (sym e ∙ z))))
 
   block-step : (fs : List Field) → Small s → readList s ≡ lists.ListRead.list fs → Left r out (encodeBlock E stream part fs (length out))
-      → TiedStep (Event.wrote write r) (wroteBy stream part fs (encodeBlock E stream part fs (length out) .output))
+      → TiedStep (Event.byEncoder write r) (wroteBy stream part fs (encodeBlock E stream part fs (length out) .output))
   unfolding wroteBy outputBytes encoderCall
   block-step fs small read =
       let l = list-forth s small fs read in
       block-ways
-      (λ (o : Outcome Encoder). encodeBlock E stream part fs (length out) ≡ o → Left r out o → TiedStep (Event.wrote write r) (wroteBy stream part fs (o .output)))
-      E (λ a z e x. idle-step (Event.wrote write r) (quiet-block stream part s out r (unlike r a (x .answer) z))) stream part fs (length out)
+      (λ (o : Outcome Encoder). encodeBlock E stream part fs (length out) ≡ o → Left r out o → TiedStep (Event.byEncoder write r) (wroteBy stream part fs (o .output)))
+      E (λ a z e x. idle-step (Event.byEncoder write r) (quiet-block stream part s out r (unlike r a (x .answer) z))) stream part fs (length out)
       (λ p rs chosen d below turn short room e x.
       let fine = block-fine E stream part fs (length out) F (l .1) rs (ap (λ (o : Outcome Encoder). o .output) e) in
       let b = done-some r out _ 0 room (x .answer) (x .output) in
@@ -124,7 +124,7 @@ module _ (E : Encoder) (F : FormsEncoder E) (r : Result) (stream part : ℕ) (s 
   -- by its reading
   written-step : (b : Bool) (q : ListRead) → Small s → readList s ≡ q
       → Left r out (encoderCall E (pick b (readListCall stream part (length out) q) (at-encoder.unread out-of-turn)))
-      → TiedStep (Event.wrote write r) (encoderEvent (pick b (readListCall stream part (length out) q) (at-encoder.unread out-of-turn))
+      → TiedStep (Event.byEncoder write r) (encoderEvent (pick b (readListCall stream part (length out) q) (at-encoder.unread out-of-turn))
       (encoderCall E (pick b (readListCall stream part (length out) q) (at-encoder.unread out-of-turn))))
   unfolding encoderCall encoderEvent
   written-step true (lists.ListRead.list fs) small e l = block-step fs small e l
@@ -140,9 +140,9 @@ acknowledged-taken E i taken =
     (λ a z e. absurd (eqb-false (a .number) 0 z e)) i taken (λ e there gone z. refl)
 
 module _ (E : Encoder) (r : Result) (s : List ℕ) where
-  acknowledged-step : (q : InstructionRead) → readForEncoder s ≡ q → InstructionTold q
+  acknowledged-step : (q : InstructionRead) → readForEncoder s ≡ q → InstructionTold encoderRefusals q
       → Left r [] (encoderCall E (onInstruction at-encoder.unread q acknowledgedCall))
-      → TiedStep (Event.wrote (calls.EncoderCall.acknowledge s) r) (encoderEvent (onInstruction at-encoder.unread q acknowledgedCall)
+      → TiedStep (Event.byEncoder (calls.EncoderCall.acknowledge s) r) (encoderEvent (onInstruction at-encoder.unread q acknowledgedCall)
       (encoderCall E (onInstruction at-encoder.unread q acknowledgedCall)))
   unfolding encoderCall encoderEvent
   acknowledged-step (Found (Insert i name value) taken) e t l = let k = encoder-good s _ taken e .kind in nope (cc)
@@ -161,13 +161,13 @@ module _ (E : Encoder) (r : Result) (s : List ℕ) where
   }
   acknowledged-step (Refused number) e t l =
       let n : r .answer .number ≡ number = ap (λ (a : Answer). a .number) (l .answer) in
-      idle-step (Event.wrote (calls.EncoderCall.acknowledge s) r)
-      (quiet-acknowledgement s r (number, e, n, λ z. refuses-some number t (sym n ∙ z)))
+      idle-step (Event.byEncoder (calls.EncoderCall.acknowledge s) r)
+      (quiet-acknowledgement s r (number, e, n, λ z. refuses-some encoderRefusals refl number t (sym n ∙ z)))
 
 -- ---- every call
 pub encoder-step : (E : Encoder) → FormsEncoder E → (c : EncoderCall) → EncoderBytes c → (r : Result)
     → Left r (encoderLent c) (encoderCall E (encoderCallOf E c))
-    → TiedStep (Event.wrote c r) (encoderEvent (encoderCallOf E c) (encoderCall E (encoderCallOf E c)))
+    → TiedStep (Event.byEncoder c r) (encoderEvent (encoderCallOf E c) (encoderCall E (encoderCallOf E c)))
 unfolding encoderCallOf encoderCall encoderEvent
 encoder-step E F (calls.EncoderCall.insert name value out) b r l = insert-step E F r name value out l
 encoder-step E F (calls.EncoderCall.delete index out) b r l = delete-step E F r index out l

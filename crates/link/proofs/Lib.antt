@@ -7,17 +7,27 @@ pub mod StatesKept
 pub mod DecoderLifting
 pub mod EncoderLifting
 pub mod Runs
--- demand 1: answers; and document 01's ten checks
-pub mod Beyond
-pub mod AnswerNumbers
-pub mod Answers
-pub mod TenChecks
--- histories
 pub mod DoneBytes
-pub mod DecoderSums
-pub mod EncoderSums
-pub mod EncoderHorizons
-pub mod StateReads
+pub mod HeldSizes
+-- demand 1: answers
+pub mod Says
+pub mod DecoderAnswers
+pub mod EncoderAnswers
+pub mod Beyond
+pub mod Writes
+pub mod Leaves
+pub mod Answers
+-- document 01's ten checks
+pub mod CallTests
+pub mod TenChecks
+-- histories: what happened at each end, and what follows from it
+pub mod DecoderHistory
+pub mod EncoderHappened
+pub mod EncoderTables
+pub mod EncoderChoices
+pub mod EncoderReferring
+pub mod EncoderDone
+pub mod EncoderHistory
 pub mod HistoriesClaim
 -- demand 3, before "Hence"
 pub mod StillAccepted

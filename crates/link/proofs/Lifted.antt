@@ -38,7 +38,7 @@ decoderCallOf D (calls.DecoderCall.read s) =
     onInstruction at-decoder.unread (readForDecoder s) (λ p taken. at-decoder.read (instructionOf s p) taken)
 decoderCallOf D (calls.DecoderCall.block stream part s out) =
     pick (partTurn (D .finished) stream (partOf part)) (readBlockCall stream part (length out) (readBlock s)) (at-decoder.unread out-of-turn)
-decoderCallOf D (calls.DecoderCall.ended stream) = at-decoder.ended stream
+decoderCallOf D (calls.DecoderCall.close k stream) = at-decoder.close k stream
 decoderCallOf D (calls.DecoderCall.collect out) = at-decoder.collect (length out)
 decoderCallOf D (calls.DecoderCall.hold index) = at-decoder.hold index
 

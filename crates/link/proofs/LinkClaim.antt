@@ -9,8 +9,8 @@ use Rattle.model.specs.Decoder.{startDecoder}
 use Rattle.model.specs.Encoder.{startEncoder}
 use Rattle.model.specs.Events as events
 use Rattle.model.specs.Link as model
-use Rattle.model.proofs.Demand.{demand-3}
-use Rattle.link.specs.Claims.{LinkCall, Ends, events as byte-events, Rules, Served, AllLinkBytes, Started, LinkClaim}
+use Rattle.model.proofs.Demand.{abstract-demand}
+use Rattle.link.specs.Claims.{LinkCall, Ends, events as byte-events, Rules, Served, AllLinkBytes, Opening, Started, LinkClaim}
 use Rattle.link.proofs.Lifted.{StandsDecoder, StandsEncoder}
 use Rattle.link.proofs.DecoderLifting.{start-decoder, start-decoder-limit}
 use Rattle.link.proofs.EncoderLifting.{start-encoder, start-encoder-limit}
@@ -23,7 +23,13 @@ start-done : (limit : ℕ) → limit ≤ 4096 → startAnswer limit .number ≡ 
 unfolding startAnswer
 start-done limit h = rw (le-leb limit 4096 h) refl
 
-module _ (m n : ℕ) (S : Ends) (T : Started m n S) where
+module _ (o : Opening) (S : Ends) (T : Started o S) where
+  abbrev m : ℕ
+  m = o .encoder-limit
+
+  abbrev n : ℕ
+  n = o .decoder-limit
+
   pub fresh-ends : Joined S (events.fresh m n)
   unfolding events.fresh
   fresh-ends = record {
@@ -31,14 +37,14 @@ module _ (m n : ℕ) (S : Ends) (T : Started m n S) where
     decoder-stands = subst (λ (l : List ℕ). StandsDecoder l (startDecoder n)) (T .decoder-is) (start-decoder (T .decoder-memory) n (T .decoder-small) (T .decoder-done));
   }
 
-  served : m ≤ n → (cs : List LinkCall) → AllLinkBytes cs → Rules (byte-events S cs) → Served (byte-events S cs)
-  served h cs b R =
+  served : (cs : List LinkCall) → AllLinkBytes cs → Rules (byte-events S cs) → Served (byte-events S cs)
+  served cs b R =
       let G = run S (events.fresh m n) fresh-ends cs b in
       let rules : Rules (bytes (G .steps)) = subst Rules (sym (G .byte)) R in
-      let follows = demand-3 .hence .served m n (start-done m (start-encoder-limit (T .encoder-memory) m (T .encoder-done)))
-      (start-done n (start-decoder-limit (T .decoder-memory) n (T .decoder-done))) h (G .calls) (G .fine)
-      (subst model.Rules (G .same) (model-rules (G .steps) rules)) in
-      subst Served (G .byte) (served-bytes (G .steps) rules (subst model.Served (sym (G .same)) follows))
+      let follows = abstract-demand .hence .served m n (start-done m (start-encoder-limit (T .encoder-memory) m (T .encoder-done)))
+      (start-done n (start-decoder-limit (T .decoder-memory) n (T .decoder-done))) (T .limits) (G .calls) (G .fine)
+      (subst model.AbstractRules (G .same) (model-rules (G .steps) rules)) in
+      subst Served (G .byte) (served-bytes (G .steps) rules (subst model.AbstractServed (sym (G .same)) follows))
 
 pub link-claim : LinkClaim
-link-claim = record { served = λ m n S T h cs b R. served m n S T h cs b R }
+link-claim = record { served = λ o S T cs b R. served o S T cs b R }

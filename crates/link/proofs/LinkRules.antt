@@ -13,11 +13,13 @@ use Rattle.instructions.specs.Instruction.{Instruction, acknowledge}
 use Rattle.instructions.specs.Reading.{readForDecoder, readForEncoder}
 use Rattle.blocks.specs.Representation.{Representation}
 use Rattle.blocks.specs.Reading.{block, readBlock}
+use Rattle.model.specs.Parts.{ended}
 use Rattle.model.specs.Outcome.{Output}
 use Rattle.model.specs.Events as events
 use Rattle.model.specs.Link.{at}
 use Rattle.model.specs.Link as model
 use Rattle.reply.specs.Result.{Result}
+use Rattle.link.specs.Calls as calls
 use Rattle.link.specs.Claims.{Event, Written, writtenIn, Accepted, Rules, Managed, Acknowledges}
 use Rattle.link.proofs.Steps.{Unreadable, Step, byteOf, modelOf, bytes, modelled, OfferStep, ByteTold, byte-told, OfferedStep, ModelTold, model-told}
 use Rattle.link.proofs.StepHistories.{alike, alike-model, alike-bytes}
@@ -82,7 +84,7 @@ module _ (ss : List Step) (R : Rules (bytes ss)) where
   management xs ys i n q =
       let P = split-steps modelOf ss xs (events.heard i n) ys q in
       let t = told-by-model (P .step) _ (P .is) in
-      let w = heard-next ss (R .management) (P .before) (P .step) (P .after) (P .whole) (t .given) (t .result) (t .is) in
+      let w = heard-next ss (R .management) (P .before) (P .step) (P .after) (P .whole) (t .which) (t .given) (t .result) (t .is) in
       subst (λ (l : List events.Event). at (model.heardIn l) (model.saidIn l) ≡ some i) (P .front)
       (next-read readForDecoder Managed _ _ (t .given) (t .result) i (t .tied) w .0)
 
@@ -104,7 +106,7 @@ module _ (ss : List Step) (R : Rules (bytes ss)) where
     offer-told = told-by-model (offer-split .step) _ (offer-split .is)
 
     offer-around : bytes ss
-        ≡ bytes (offer-split .before) ++ (Event.offered n s part (offer-told .given) (offer-told .lent) (offer-told .result) ∷ bytes (offer-split .after))
+        ≡ bytes (offer-split .before) ++ (Event.byDecoder n (calls.DecoderCall.block s part (offer-told .given) (offer-told .lent)) (offer-told .result) ∷ bytes (offer-split .after))
     offer-around = events-around byteOf ss (offer-split .before) (offer-split .step) (offer-split .after) (offer-split .whole) _ (offer-told .is)
 
     unchanged : (w : model.Written) × (at n (model.writtenIn xs) ≡ some w) × (w .stream ≡ s) × (w .part ≡ part) × (w .says ≡ rs)
@@ -157,15 +159,17 @@ module _ (ss : List Step) (R : Rules (bytes ss)) where
         subst (model.Accepted (u .0)) (P .front) (accepted-model (P .before) (u .0) (u .5)),
       )
 
-  ends : (xs ys : List events.Event) (s : ℕ) → modelled ss ≡ xs ++ (events.told s ∷ ys)
+  ends : (xs ys : List events.Event) (s : ℕ) → modelled ss ≡ xs ++ (events.told ended s ∷ ys)
       → ((n : ℕ) (w : model.Written) → at n (model.writtenIn (modelled ss)) ≡ some w → w .stream ≡ s → model.Accepted n xs)
       ⊎ List·Memᴰ (events.Event.reset s) xs
-  ends xs ys s q = go (R .ends (bytes (P .before)) (bytes (P .after)) s (t .0) (events-around byteOf ss (P .before) (P .step) (P .after) (P .whole) _ (t .2)) (t .1))
+  ends xs ys s q =
+      go (R .ends (bytes (P .before)) (bytes (P .after)) (t .0) s (t .1)
+      (events-around byteOf ss (P .before) (P .step) (P .after) (P .whole) _ (t .3)) (t .2))
     where
-      P : Split modelOf ss xs (events.told s) ys
-      P = split-steps modelOf ss xs (events.told s) ys q
+      P : Split modelOf ss xs (events.told ended s) ys
+      P = split-steps modelOf ss xs (events.told ended s) ys q
 
-      t : (r : Result) × (r .answer .number ≡ 0) × (byteOf (P .step) ≡ Event.told s r)
+      t : (n : ℕ) × (r : Result) × (r .answer .number ≡ 0) × (byteOf (P .step) ≡ Event.byDecoder n (calls.DecoderCall.close ended s) r)
       t = told-by-model (P .step) _ (P .is)
 
       go : ((n : ℕ) (w : Written) → at n (writtenIn (bytes ss)) ≡ some w → w .stream ≡ s → Accepted n (bytes (P .before)))
@@ -178,7 +182,7 @@ module _ (ss : List Step) (R : Rules (bytes ss)) where
           subst (model.Accepted n) (P .front) (accepted-model (P .before) n (f n (v .0) (v .1) (v .2 .stream ∙ e))))
       go (inr m) = inr (subst (List·Memᴰ (events.Event.reset s)) (P .front) (reset-model (P .before) s m))
 
-  pub model-rules : model.Rules (modelled ss)
+  pub model-rules : model.AbstractRules (modelled ss)
   model-rules = record {
     management = management;
     acknowledgements = acknowledged;

@@ -39,10 +39,10 @@ cut-answer : (reads : List ℕ → InstructionRead) (Says : Instruction → Type
 cut-answer reads Says is h s r f (inl w) = let a = f .1 in let b = w .found in nope (cc)
 cut-answer reads Says is h s r f (inr e) = let a = f .1 in let b = e .0 in let z : f .0 ≡ 2 = cc in (f .2 ∙ z, e .1)
 
-module _ (ss : List Step) (R : Rules (bytes ss)) (M : model.Served (modelled ss)) where
+module _ (ss : List Step) (R : Rules (bytes ss)) (M : model.AbstractServed (modelled ss)) where
   -- ---- an offered block
   module _ (xs : List Step) (st : Step) (ys : List Step) (q : ss ≡ xs ++ (st ∷ ys)) (n s part : ℕ) (b out : List ℕ) (r : Result)
-      (is : byteOf st ≡ Event.offered n s part b out r) (w : Written) (found : at n (writtenIn (bytes xs)) ≡ some w) where
+      (is : byteOf st ≡ Event.byDecoder n (calls.DecoderCall.block s part b out) r) (w : Written) (found : at n (writtenIn (bytes xs)) ≡ some w) where
     -- the block in the model
     said : (v : model.Written) × (at n (model.writtenIn (modelled xs)) ≡ some v) × SameBlock (model.saidIn (modelled xs)) w v
     said = alike-model _ _ _ (alike xs) n w found
@@ -68,7 +68,7 @@ module _ (ss : List Step) (R : Rules (bytes ss)) (M : model.Served (modelled ss)
         same : SameBlock (model.saidIn (modelled xs)) w v
         same = said .2
 
-        B : model.ServedBlock (modelled xs) v (r .answer) (t .output)
+        B : model.AbstractServedBlock (modelled xs) v (r .answer) (t .output)
         B = M .blocks (modelled xs) (modelled ys) n s part (t .says) (length out) (r .answer) (t .output) (events-around modelOf ss xs st ys q _ (t .is)) v (said .1)
 
         waiting : ((i : ℕ) × (61 < i) × Refers (v .says) i × (model.heldAfter (modelled xs) i ≡ false))
@@ -90,35 +90,35 @@ module _ (ss : List Step) (R : Rules (bytes ss)) (M : model.Served (modelled ss)
         let k = u .1 in
         nope (cc)
 
-  blocks : (xs ys : List Event) (n s part : ℕ) (b out : List ℕ) (r : Result) → bytes ss ≡ xs ++ (Event.offered n s part b out r ∷ ys)
+  blocks : (xs ys : List Event) (n s part : ℕ) (b out : List ℕ) (r : Result) → bytes ss ≡ xs ++ (Event.byDecoder n (calls.DecoderCall.block s part b out) r ∷ ys)
       → (w : Written) → at n (writtenIn xs) ≡ some w → ServedBlock xs w r
   blocks xs ys n s part b out r q w found =
-      let P = split-steps byteOf ss xs (Event.offered n s part b out r) ys q in
+      let P = split-steps byteOf ss xs (Event.byDecoder n (calls.DecoderCall.block s part b out) r) ys q in
       let f : at n (writtenIn (bytes (P .before))) ≡ some w = ap (λ (l : List Event). at n (writtenIn l)) (P .front) ∙ found in
       subst (λ (l : List Event). ServedBlock l w r) (P .front)
       (offered (P .before) (P .step) (P .after) (P .whole) n s part b out r (P .is) w f (told-by-bytes (P .step) _ (P .is)))
 
   -- ---- reads
-  management : (xs ys : List Event) (s : List ℕ) (r : Result) → bytes ss ≡ xs ++ (Event.heard s r ∷ ys)
+  management : (xs ys : List Event) (n : ℕ) (s : List ℕ) (r : Result) → bytes ss ≡ xs ++ (Event.byDecoder n (calls.DecoderCall.read s) r ∷ ys)
       → (r .answer .number ≡ 0) ⊎ ((r .answer .number ≡ 2) × Cut Managed s)
-  management xs ys s r q = go (told-by-bytes (P .step) _ (P .is))
+  management xs ys n s r q = go (told-by-bytes (P .step) _ (P .is))
     where
-      P : Split byteOf ss xs (Event.heard s r) ys
-      P = split-steps byteOf ss xs (Event.heard s r) ys q
+      P : Split byteOf ss xs (Event.byDecoder n (calls.DecoderCall.read s) r) ys
+      P = split-steps byteOf ss xs (Event.byDecoder n (calls.DecoderCall.read s) r) ys q
 
       go : HeardAs s r (modelOf (P .step)) ⊎ Misread readForDecoder s r → (r .answer .number ≡ 0) ⊎ ((r .answer .number ≡ 2) × Cut Managed s)
       go (inl t) =
           inl (M .management (modelled (P .before)) (modelled (P .after)) (t .0) (r .answer .number)
           (events-around modelOf ss (P .before) (P .step) (P .after) (P .whole) _ (t .2)))
       go (inr f) =
-          inr (cut-answer readForDecoder Managed _ _ s r f (heard-next ss (R .management) (P .before) (P .step) (P .after) (P .whole) s r (P .is)))
+          inr (cut-answer readForDecoder Managed _ _ s r f (heard-next ss (R .management) (P .before) (P .step) (P .after) (P .whole) n s r (P .is)))
 
-  acknowledgements : (xs ys : List Event) (s : List ℕ) (r : Result) → bytes ss ≡ xs ++ (Event.wrote (calls.EncoderCall.acknowledge s) r ∷ ys)
+  acknowledgements : (xs ys : List Event) (s : List ℕ) (r : Result) → bytes ss ≡ xs ++ (Event.byEncoder (calls.EncoderCall.acknowledge s) r ∷ ys)
       → (r .answer .number ≡ 0) ⊎ ((r .answer .number ≡ 2) × Cut Acknowledges s)
   acknowledgements xs ys s r q = go (told-by-bytes (P .step) _ (P .is))
     where
-      P : Split byteOf ss xs (Event.wrote (calls.EncoderCall.acknowledge s) r) ys
-      P = split-steps byteOf ss xs (Event.wrote (calls.EncoderCall.acknowledge s) r) ys q
+      P : Split byteOf ss xs (Event.byEncoder (calls.EncoderCall.acknowledge s) r) ys
+      P = split-steps byteOf ss xs (Event.byEncoder (calls.EncoderCall.acknowledge s) r) ys q
 
       go : AcknowledgedAs s r (modelOf (P .step)) ⊎ Misread readForEncoder s r → (r .answer .number ≡ 0) ⊎ ((r .answer .number ≡ 2) × Cut Acknowledges s)
       go (inl t) =

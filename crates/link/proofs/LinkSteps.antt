@@ -16,14 +16,14 @@ use Rattle.instructions.specs.Instruction.{Instruction, insert, delete, acknowl
 use Rattle.instructions.specs.Reading.{readForDecoder, onInstruction, instructionOf}
 use Rattle.instructions.specs.declared.read.InstructionRead.{InstructionRead}
 use Rattle.instructions.specs.declared.read.InstructionRead.the-variants.{Found, Refused}
-use Rattle.instructions.proofs.Told.{InstructionTold, decoder-told}
+use Rattle.instructions.proofs.Told.{decoderRefusals, InstructionTold, decoder-told}
 use Rattle.blocks.specs.Representation.{Representation}
 use Rattle.blocks.specs.Reading.{BlockRead, readBlock}
 use Rattle.blocks.specs.Reading as blocks
-use Rattle.blocks.proofs.Told.{BlockTold, block-told}
-use Rattle.model.specs.Parts.{Part, partOf, inTurn, streams}
+use Rattle.blocks.proofs.Told.{blockRefusals, BlockTold, block-told}
+use Rattle.model.specs.Parts.{Part, partOf, Closing, inTurn, streams}
 use Rattle.model.specs.Outcome.{Outcome, outputBytes, refuse}
-use Rattle.model.specs.Decoder.{Decoder, readInstruction, decodePart, decodeBlock, endStream, collectEntry, enquireHold, FormsDecoder}
+use Rattle.model.specs.Decoder.{Decoder, readInstruction, decodePart, decodeBlock, closeParts, collectEntry, FormsDecoder}
 use Rattle.model.specs.DecoderCalls.{decoderCall}
 use Rattle.model.specs.DecoderCalls as at-decoder
 use Rattle.model.specs.Encoder.{Encoder, FormsEncoder}
@@ -36,15 +36,16 @@ use Rattle.model.proofs.DecoderWays as ways
 use Rattle.model.proofs.Saying.{ack-fine}
 use Rattle.parts.specs.Turn.{partTurn}
 use Rattle.reply.specs.Result.{Result}
-use Rattle.link.specs.Calls.{decoderResult, encoderResult}
+use Rattle.link.specs.Calls.{DecoderCall, DecoderBytes, decoderResult, encoderResult, doneBytes}
 use Rattle.link.specs.Calls as calls
-use Rattle.link.specs.Claims.{LinkCall, Ends, Event, doneBytes, turn, events, LinkBytes, AllLinkBytes, offer, Acknowledges}
+use Rattle.link.specs.Claims.{LinkCall, Ends, Event, turn, events, LinkBytes, AllLinkBytes, Acknowledges}
 use Rattle.link.proofs.Lifted.{readBlockCall, decoderCallOf, StandsDecoder, StandsEncoder}
-use Rattle.link.proofs.DecoderLifting.{kept-self-decoder, lift-decoder}
+use Rattle.link.proofs.DecoderLifting.{lift-decoder}
 use Rattle.link.proofs.EncoderLifting.{fine-encoder, kept-self-encoder, lift-encoder}
+use Rattle.link.proofs.DecoderHistory.{forms-decoder}
 use Rattle.link.proofs.Steps.{Step, heard, offered, freed, told, reset, bytes, modelled}
 use Rattle.link.proofs.QuietSteps.{TiedStep, idle-step, Left, done-none, done-told, done-some, refuses-some}
-use Rattle.link.proofs.QuietSteps.{quiet-read, quiet-offer, quiet-ended, quiet-collect, quiet-enquiry}
+use Rattle.link.proofs.QuietSteps.{quiet-read, quiet-offer, quiet-closed, quiet-collect, quiet-enquiry}
 use Rattle.link.proofs.EncoderSteps.{encoder-step}
 
 -- ---- what the model's calls at the decoder answer
@@ -59,9 +60,6 @@ read-taken D (delete i plain trailer) taken =
 read-taken D (acknowledge i) taken =
     ways.acknowledge-ways (λ (o : Outcome Decoder). o .answer .number ≡ 0 → o .answer .first ≡ taken) D
     (λ a z e. absurd (eqb-false (a .number) 0 z e)) i taken
-
-hold-state : (D : Decoder) (i : ℕ) → enquireHold D i .state ≡ D
-hold-state D i = ways.hold-ways (λ (o : Outcome Decoder). o .state ≡ D) D (λ a z. refl) i (λ d e. refl)
 
 -- a block out of turn is refused before it is looked at
 refused-first : {X : Type 0} (a b : Bool) (x y : X) → (a && b) ≡ false → need a x (need b x y) ≡ x
@@ -100,9 +98,6 @@ pub record LinkStep (S : Ends) (M : model.Ends) (c : LinkCall) : Type 0 where
 encoder-forms : (m : List ℕ) (E : Encoder) → StandsEncoder m E → FormsEncoder E
 encoder-forms m E T = subst FormsEncoder (T .state) (kept-self-encoder m (T .small) (T .forms) .fits .forms)
 
-decoder-forms : (m : List ℕ) (D : Decoder) → StandsDecoder m D → FormsDecoder D
-decoder-forms m D T = subst FormsDecoder (T .state) (kept-self-decoder m (T .small) (T .forms) .fits .forms)
-
 number-of : (r : Result) (a : Answer) → r .answer ≡ a → r .answer .number ≡ a .number
 number-of r a e = ap (λ (x : Answer). x .number) e
 
@@ -111,21 +106,21 @@ module _ (S : Ends) (M : model.Ends) (J : Joined S M) where
   D = M .decoder
 
   -- what was read, by its reading
-  read-step : (s : List ℕ) (q : InstructionRead) → readForDecoder s ≡ q → InstructionTold q
+  read-step : (n : ℕ) (s : List ℕ) (q : InstructionRead) → readForDecoder s ≡ q → InstructionTold decoderRefusals q
       → Left (decoderResult (S .decoder) (calls.DecoderCall.read s)) []
       (decoderCall D (onInstruction at-decoder.unread q (λ p taken. at-decoder.read (instructionOf s p) taken)))
       → StandsDecoder (decoderResult (S .decoder) (calls.DecoderCall.read s) .memory)
       (decoderCall D (onInstruction at-decoder.unread q (λ p taken. at-decoder.read (instructionOf s p) taken)) .state)
-      → LinkStep S M (LinkCall.read s)
-  unfolding turn model.turn decoderCall
-  read-step s (Found p taken) e t l h =
+      → LinkStep S M (LinkCall.atDecoder n (calls.DecoderCall.read s))
+  unfolding turn model.turn model.decoderEvent decoderCall
+  read-step n s (Found p taken) e t l h =
       let i : Instruction = instructionOf s p in
       let r : Result = decoderResult (S .decoder) (calls.DecoderCall.read s) in
       record {
-        call = model.read i taken;
+        call = model.decoder n (at-decoder.read i taken);
         fine = tt;
         tied = record {
-          step = heard s r i (record {
+          step = heard n s r i (record {
             place = p;
             taken = taken;
             found = e;
@@ -137,13 +132,13 @@ module _ (S : Ends) (M : model.Ends) (J : Joined S M) where
         };
         joined = record { encoder-stands = J .encoder-stands; decoder-stands = h };
       }
-  read-step s (Refused number) e t l h =
+  read-step n s (Refused number) e t l h =
       let r : Result = decoderResult (S .decoder) (calls.DecoderCall.read s) in
-      let n : r .answer .number ≡ number = number-of r _ (l .answer) in
+      let q : r .answer .number ≡ number = number-of r _ (l .answer) in
       record {
-        call = model.unread number;
+        call = model.decoder n (at-decoder.unread number);
         fine = tt;
-        tied = idle-step (Event.heard s r) (quiet-read s r (number, e, n, λ z. refuses-some number t (sym n ∙ z)));
+        tied = idle-step (Event.byDecoder n (calls.DecoderCall.read s) r) (quiet-read n s r (number, e, q, λ z. refuses-some decoderRefusals refl number t (sym q ∙ z)));
         joined = record { encoder-stands = J .encoder-stands; decoder-stands = h };
       }
 
@@ -153,14 +148,14 @@ module _ (S : Ends) (M : model.Ends) (J : Joined S M) where
     offer-result = decoderResult (S .decoder) (calls.DecoderCall.block stream part s out)
 
     offer-read : (rs : List Representation) → readBlock s ≡ blocks.BlockRead.block rs → Left offer-result out (decodeBlock D stream part rs (length out))
-        → StandsDecoder (offer-result .memory) (decodeBlock D stream part rs (length out) .state) → LinkStep S M (offer n stream part s out)
-    unfolding turn model.turn decoderCall
+        → StandsDecoder (offer-result .memory) (decodeBlock D stream part rs (length out) .state) → LinkStep S M (LinkCall.atDecoder n (calls.DecoderCall.block stream part s out))
+    unfolding turn model.turn model.decoderEvent decoderCall
     offer-read rs e l h =
         let o : Outcome Decoder = decodeBlock D stream part rs (length out) in
         let t : Tells (length out) o = decoded-told D stream part rs (length out) in
         let r : Result = offer-result in
         record {
-          call = model.offer n stream part rs (length out);
+          call = model.decoder n (at-decoder.block stream part rs (length out));
           fine = tt;
           tied = record {
             step = offered n stream part s out r rs (o .output) (record {
@@ -177,62 +172,101 @@ module _ (S : Ends) (M : model.Ends) (J : Joined S M) where
     offer-step : (b : Bool) → partTurn (D .finished) stream (partOf part) ≡ b → (q : BlockRead) → readBlock s ≡ q → BlockTold q
         → Left offer-result out (decoderCall D (pick b (readBlockCall stream part (length out) q) (at-decoder.unread out-of-turn)))
         → StandsDecoder (offer-result .memory) (decoderCall D (pick b (readBlockCall stream part (length out) q) (at-decoder.unread out-of-turn)) .state)
-        → LinkStep S M (offer n stream part s out)
-    unfolding turn model.turn decoderCall
+        → LinkStep S M (LinkCall.atDecoder n (calls.DecoderCall.block stream part s out))
+    unfolding turn model.turn model.decoderEvent decoderCall
     offer-step b f (blocks.BlockRead.block rs) e t l h =
         let d = turned D stream part rs (length out) b f in
         offer-read rs e (subst (Left offer-result out) d l) (subst (λ (o : Outcome Decoder). StandsDecoder (offer-result .memory) (o .state)) d h)
     offer-step true f (blocks.BlockRead.refused number) e t l h =
         let z : offer-result .answer .number ≡ number = number-of offer-result _ (l .answer) in
         record {
-          call = model.unread number;
+          call = model.decoder n (at-decoder.unread number);
           fine = tt;
-          tied = idle-step (Event.offered n stream part s out offer-result)
-              (quiet-offer n stream part s out offer-result (number, e, λ y. refuses-some number t (sym z ∙ y)));
+          tied = idle-step (Event.byDecoder n (calls.DecoderCall.block stream part s out) offer-result)
+              (quiet-offer n stream part s out offer-result (number, e, λ y. refuses-some blockRefusals refl number t (sym z ∙ y)));
           joined = record { encoder-stands = J .encoder-stands; decoder-stands = h };
         }
     offer-step false f (blocks.BlockRead.refused number) e t l h =
         let z : offer-result .answer .number ≡ out-of-turn = number-of offer-result _ (l .answer) in
         record {
-          call = model.unread number;
+          call = model.decoder n (at-decoder.unread number);
           fine = tt;
-          tied = idle-step (Event.offered n stream part s out offer-result)
+          tied = idle-step (Event.byDecoder n (calls.DecoderCall.block stream part s out) offer-result)
               (quiet-offer n stream part s out offer-result (number, e, λ y. omega (arith, z, y)));
           joined = record { encoder-stands = J .encoder-stands; decoder-stands = h };
         }
 
-  ended-tied : (stream : ℕ) (r : Result) → Left r [] (endStream D stream) → TiedStep (Event.told stream r) (toldBy stream (endStream D stream .answer))
+  closed-tied : (n : ℕ) (c : Closing) (stream : ℕ) (r : Result) → Left r [] (closeParts D c stream)
+      → TiedStep (Event.byDecoder n (calls.DecoderCall.close c stream) r) (toldBy c stream (closeParts D c stream .answer))
   unfolding toldBy
-  ended-tied stream r =
-      ways.end-ways (λ (o : Outcome Decoder). Left r [] o → TiedStep (Event.told stream r) (toldBy stream (o .answer))) D
-      (λ a z l. subst (TiedStep (Event.told stream r)) (sym (pick-false (eqb (a .number) 0) (model.told stream) model.quiet z))
-      (idle-step (Event.told stream r) (quiet-ended stream r (λ e. eqb-false (a .number) 0 z (sym (number-of r _ (l .answer)) ∙ e)))))
-      stream
-      (λ below l. record { step = told stream r (number-of r _ (l .answer)); byte = refl; same = refl })
+  closed-tied n c stream r =
+      let e : Event = Event.byDecoder n (calls.DecoderCall.close c stream) r in
+      ways.close-ways (λ (o : Outcome Decoder). Left r [] o → TiedStep e (toldBy c stream (o .answer))) D
+      (λ a z l. subst (TiedStep e) (sym (pick-false (eqb (a .number) 0) (model.told c stream) model.quiet z))
+      (idle-step e (quiet-closed n c stream r (λ y. eqb-false (a .number) 0 z (sym (number-of r _ (l .answer)) ∙ y)))))
+      c stream
+      (λ below l. record { step = told n c stream r (number-of r _ (l .answer)); byte = refl; same = refl })
 
-  freed-tied : (out : List ℕ) (r : Result) (i : ℕ) → Acknowledges (acknowledge i) → doneBytes r ≡ instructionWire (acknowledge i)
-      → TiedStep (Event.collected out r) (model.freed i)
-  freed-tied out r i f b =
+  freed-tied : (n : ℕ) (out : List ℕ) (r : Result) (i : ℕ) → Acknowledges (acknowledge i) → doneBytes r ≡ instructionWire (acknowledge i)
+      → TiedStep (Event.byDecoder n (calls.DecoderCall.collect out) r) (model.freed i)
+  freed-tied n out r i f b =
       let g = f .1 in
       let e : i ≡ f .0 = cc in
-      record { step = freed out r i (subst FineIndex (sym e) (f .2)) b; byte = refl; same = refl }
+      record { step = freed n out r i (subst FineIndex (sym e) (f .2)) b; byte = refl; same = refl }
 
-  collect-tied : FormsDecoder D → (out : List ℕ) (r : Result) → Left r out (collectEntry D (length out))
-      → TiedStep (Event.collected out r) (freedBy (collectEntry D (length out) .output))
+  collect-tied : FormsDecoder D → (n : ℕ) (out : List ℕ) (r : Result) → Left r out (collectEntry D (length out))
+      → TiedStep (Event.byDecoder n (calls.DecoderCall.collect out) r) (freedBy (collectEntry D (length out) .output))
   unfolding freedBy outputBytes decoderCall
-  collect-tied F out r =
-      ways.collect-ways
-      (λ (o : Outcome Decoder). collectEntry D (length out) ≡ o → Left r out o → TiedStep (Event.collected out r) (freedBy (o .output))) D
-      (λ a z e l. idle-step (Event.collected out r) (quiet-collect out r (done-none r (ap (λ (x : Answer). eqb (x .number) 0) (l .answer) ∙ z))))
+  collect-tied F n out r =
+      let c : Event = Event.byDecoder n (calls.DecoderCall.collect out) r in
+      ways.collect-ways (λ (o : Outcome Decoder). collectEntry D (length out) ≡ o → Left r out o → TiedStep c (freedBy (o .output))) D
+      (λ a z e l. idle-step c (quiet-collect n out r (done-none r (ap (λ (x : Answer). eqb (x .number) 0) (l .answer) ∙ z))))
       (length out)
-      (λ idle e l. idle-step (Event.collected out r) (quiet-collect out r (done-some r out [] 0 (omega arith) (l .answer) (l .output))))
+      (λ idle e l. idle-step c (quiet-collect n out r (done-some r out [] 0 (omega arith) (l .answer) (l .output))))
       (λ h next room e l.
-      freed-tied out r (h .index) (ack-fine D (at-decoder.collect (length out)) F (acknowledge (h .index)) (ap (λ (o : Outcome Decoder). o .output) e))
+      freed-tied n out r (h .index) (ack-fine D (at-decoder.collect (length out)) F (acknowledge (h .index)) (ap (λ (o : Outcome Decoder). o .output) e))
       (done-some r out _ 0 room (l .answer) (l .output)))
       refl
 
+  -- a call at the decoder, by what it is tied to
+  decoder-step : (n : ℕ) (c : DecoderCall) → DecoderBytes c → LinkStep S M (LinkCall.atDecoder n c)
+  unfolding turn model.turn model.decoderEvent decoderCallOf decoderCall
+  decoder-step n (calls.DecoderCall.read s) b =
+      let L = lift-decoder (S .decoder) D (J .decoder-stands) (calls.DecoderCall.read s) b in
+      read-step n s (readForDecoder s) refl (decoder-told s .told) (record { answer = L .answer; output = L .output }) (L .stands)
+  decoder-step n (calls.DecoderCall.block stream part s out) b =
+      let L = lift-decoder (S .decoder) D (J .decoder-stands) (calls.DecoderCall.block stream part s out) b in
+      offer-step n stream part s out (partTurn (D .finished) stream (partOf part)) refl (readBlock s) refl (block-told s)
+      (record { answer = L .answer; output = L .output }) (L .stands)
+  decoder-step n (calls.DecoderCall.close k stream) b =
+      let L = lift-decoder (S .decoder) D (J .decoder-stands) (calls.DecoderCall.close k stream) b in
+      record {
+        call = model.decoder n (at-decoder.close k stream);
+        fine = tt;
+        tied = closed-tied n k stream (decoderResult (S .decoder) (calls.DecoderCall.close k stream)) (record { answer = L .answer; output = L .output });
+        joined = record { encoder-stands = J .encoder-stands; decoder-stands = L .stands };
+      }
+  decoder-step n (calls.DecoderCall.collect out) b =
+      let L = lift-decoder (S .decoder) D (J .decoder-stands) (calls.DecoderCall.collect out) b in
+      record {
+        call = model.decoder n (at-decoder.collect (length out));
+        fine = tt;
+        tied = collect-tied (forms-decoder (S .decoder) D (J .decoder-stands)) n out (decoderResult (S .decoder) (calls.DecoderCall.collect out))
+            (record { answer = L .answer; output = L .output });
+        joined = record { encoder-stands = J .encoder-stands; decoder-stands = L .stands };
+      }
+  decoder-step n (calls.DecoderCall.hold index) b =
+      let L = lift-decoder (S .decoder) D (J .decoder-stands) (calls.DecoderCall.hold index) b in
+      record {
+        call = model.decoder n (at-decoder.hold index);
+        fine = tt;
+        tied = let r : Result = decoderResult (S .decoder) (calls.DecoderCall.hold index) in
+            idle-step (Event.byDecoder n (calls.DecoderCall.hold index) r) (quiet-enquiry n index r);
+        joined = record { encoder-stands = J .encoder-stands; decoder-stands = L .stands };
+      }
+
   pub link-step : (c : LinkCall) → LinkBytes c → LinkStep S M c
-  unfolding turn model.turn decoderCallOf decoderCall
+  unfolding turn model.turn
   link-step (LinkCall.atEncoder c) b =
       let L = lift-encoder (S .encoder) (M .encoder) (J .encoder-stands) c b in
       record {
@@ -242,39 +276,7 @@ module _ (S : Ends) (M : model.Ends) (J : Joined S M) where
             (record { answer = L .answer; output = L .output });
         joined = record { encoder-stands = L .stands; decoder-stands = J .decoder-stands };
       }
-  link-step (LinkCall.read s) b =
-      let L = lift-decoder (S .decoder) D (J .decoder-stands) (calls.DecoderCall.read s) b in
-      read-step s (readForDecoder s) refl (decoder-told s .told) (record { answer = L .answer; output = L .output }) (L .stands)
-  link-step (offer n stream part s out) b =
-      let L = lift-decoder (S .decoder) D (J .decoder-stands) (calls.DecoderCall.block stream part s out) b in
-      offer-step n stream part s out (partTurn (D .finished) stream (partOf part)) refl (readBlock s) refl (block-told s)
-      (record { answer = L .answer; output = L .output }) (L .stands)
-  link-step (LinkCall.ended stream) b =
-      let L = lift-decoder (S .decoder) D (J .decoder-stands) (calls.DecoderCall.ended stream) b in
-      record {
-        call = model.ended stream;
-        fine = tt;
-        tied = ended-tied stream (decoderResult (S .decoder) (calls.DecoderCall.ended stream)) (record { answer = L .answer; output = L .output });
-        joined = record { encoder-stands = J .encoder-stands; decoder-stands = L .stands };
-      }
-  link-step (LinkCall.collect out) b =
-      let L = lift-decoder (S .decoder) D (J .decoder-stands) (calls.DecoderCall.collect out) b in
-      record {
-        call = model.collect (length out);
-        fine = tt;
-        tied = collect-tied (decoder-forms (S .decoder) D (J .decoder-stands)) out (decoderResult (S .decoder) (calls.DecoderCall.collect out))
-            (record { answer = L .answer; output = L .output });
-        joined = record { encoder-stands = J .encoder-stands; decoder-stands = L .stands };
-      }
-  link-step (LinkCall.hold index) b =
-      let L = lift-decoder (S .decoder) D (J .decoder-stands) (calls.DecoderCall.hold index) b in
-      let r : Result = decoderResult (S .decoder) (calls.DecoderCall.hold index) in
-      record {
-        call = model.hold index;
-        fine = tt;
-        tied = idle-step (Event.enquired index r) (quiet-enquiry index r);
-        joined = record { encoder-stands = J .encoder-stands; decoder-stands = subst (StandsDecoder (r .memory)) (hold-state D index) (L .stands) };
-      }
+  link-step (LinkCall.atDecoder n c) b = decoder-step n c b
   link-step (LinkCall.reset stream) b =
       record { call = model.LinkCall.reset stream; fine = tt; tied = record { step = reset stream; byte = refl; same = refl }; joined = J }
 

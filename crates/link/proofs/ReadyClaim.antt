@@ -1,24 +1,25 @@
 -- Demand 3, what stands before "Hence", on memory and bytes: after every list of calls, from a start and from all memory that forms a state.
 -- From the model's, of the state that memory stands for.
-use mathlib.Core.Path.{_≡_, refl, ap, _∙_}
+use mathlib.Core.Path.{_≡_, refl, ap, _∙_, subst, fun-ext}
 use mathlib.Core.Logic.{⊎-elim}
-use Prim.Native.Nat.{ℕ, _≤_, _<_}
-use mathlib.Core.Bool.{true, false}
-use mathlib.Core.Option.{some}
+use Prim.Native.Nat.{ℕ}
+use mathlib.Core.Bool.{true}
+use mathlib.Core.Option.{Option, none, some}
 use mathlib.Core.List.{List, [], _∷_, List·Memᴰ·head}
 use lib.ListN.{length}
-use Rattle.memory.specs.Bytes.{Small, overlay}
+use Rattle.memory.specs.Bytes.{Small}
+use Rattle.memory.proofs.Order.{either}
 use Rattle.integers.specs.Answers.{done, no-room}
-use Rattle.instructions.specs.Instruction.{acknowledge, instructionWire}
 use Rattle.blocks.specs.Representation.{Representation, indexed, blockWire}
 use Rattle.blocks.specs.Reading.{block, readBlock}
 use Rattle.blocks.specs.Meaning.{Refers, blockReferences}
 use Rattle.model.specs.Parts.{Part, Delete, namesPart, isReady, streams}
 use Rattle.model.specs.Outcome.{Outcome, outputBytes}
-use Rattle.model.specs.Decoder.{Decoder, deleteOf, readyDelete, ready, without, FormsDecoder}
+use Rattle.model.specs.Decoder.{Decoder, deleteOf, readyDelete, ready, FormsDecoder}
 use Rattle.model.specs.DecoderCalls.{decoderCall, collect}
 use Rattle.model.specs.Ready.{LowestReady}
 use Rattle.model.specs.Ready as model
+use Rattle.model.proofs.Tables.{nope}
 use Rattle.model.proofs.Marks.{OpenPart, ready-or}
 use Rattle.model.proofs.Collecting.{delete-held, held-index, held-slot}
 use Rattle.model.proofs.Ready.{ready-half}
@@ -29,10 +30,12 @@ use Rattle.reply.specs.Result.{refused, stepped}
 use Rattle.decoder.specs.Calls.{collectCall}
 use Rattle.link.specs.Calls.{decoderResult}
 use Rattle.link.specs.Calls as calls
-use Rattle.link.specs.Claims.{CouldStill, ReadyHalf, ReadyClaim}
+use Rattle.link.specs.Happened.{Ready}
+use Rattle.link.specs.Claims.{CouldStill, Frees, ReadyHalf, ReadyClaim}
 use Rattle.link.proofs.Lifted.{StandsDecoder, decoderCallOf}
 use Rattle.link.proofs.DecoderLifting.{same-decoder, stands-self-decoder, start-decoder}
 use Rattle.link.proofs.Runs.{after-decoder}
+use Rattle.link.proofs.DecoderHistory.{enquiry-ready, ready-enquiry, agree-start, agree-state}
 use Rattle.link.proofs.StillAccepted.{still-model, one-small, one-read, open-takes}
 
 refers-itself : (i : ℕ) → Refers (indexed i ∷ []) i
@@ -46,8 +49,11 @@ module _ (m : List ℕ) (small : Small m) (forms : formsDecoder m ≡ true) wher
   F : FormsDecoder D
   F = decoder-laws .fits m small forms .forms
 
-  half : model.ReadyHalf D
+  half : model.AbstractReadyHalf D
   half = ready-half D F
+
+  stands : StandsDecoder m D
+  stands = stands-self-decoder m small forms
 
   -- ---- ready exactly when no block could still be accepted
   module _ (i : ℕ) (d : Delete) (e : deleteOf D i ≡ some d) where
@@ -58,59 +64,82 @@ module _ (m : List ℕ) (small : Small m) (forms : formsDecoder m ≡ true) wher
 
     ready-unreachable : ready D i ≡ true → Unreachable
     ready-unreachable now s p b rs small-b read names refers still =
-        half .exactly i d e .0 now s p rs names refers (still-model m D (stands-self-decoder m small forms) s p b rs read still)
+        half .exactly i d e .0 now s p rs names refers (still-model m D stands s p b rs read still)
 
     ready-is : ready D i ≡ isReady (D .finished) d
     unfolding ready readyDelete
     ready-is = ap (readyDelete (D .finished)) e
 
     open-reachable : OpenPart (D .finished) d streams → Unreachable → ⊥
-    open-reachable o none =
+    open-reachable o out =
         let h = delete-held D F i d e in
         let f = held-index D F i (h .0) (h .1) in
-        none (o .stream) (o .part) (blockWire (indexed i ∷ [])) (indexed i ∷ []) (one-small i f) (one-read i f) (o .named) (refers-itself i)
-        (open-takes m D (stands-self-decoder m small forms) i f (h .0 .entry) (held-slot D F i (h .0) (h .1)) (o .stream) (o .part) (o .low) (o .unmarked))
+        out (o .stream) (o .part) (blockWire (indexed i ∷ [])) (indexed i ∷ []) (one-small i f) (one-read i f) (o .named) (refers-itself i)
+        (open-takes m D stands i f (h .0 .entry) (held-slot D F i (h .0) (h .1)) (o .stream) (o .part) (o .low) (o .unmarked))
 
     unreachable-ready : Unreachable → ready D i ≡ true
-    unreachable-ready none = ⊎-elim (λ r. ready-is ∙ r) (λ o. absurd (open-reachable o none)) (ready-or (D .finished) d)
+    unreachable-ready out = ⊎-elim (λ r. ready-is ∙ r) (λ o. absurd (open-reachable o out)) (ready-or (D .finished) d)
 
   -- ---- a collect is the model's
   collected : (out : List ℕ) (o : Outcome Decoder) → decoderCall D (collect (length out)) ≡ o → collectCall m out ≡ stepped overlayDecoder m out o
   unfolding decoderResult decoderCallOf
   collected out o e = same-decoder m small forms (calls.DecoderCall.collect out) ∙ ap (stepped overlayDecoder m out) e
 
-  none-ready : ((i : ℕ) → ready D i ≡ false) → (out : List ℕ) → collectCall m out ≡ record { answer = done 0 0; memory = m; output = out }
+  -- an entry that is ready by the state is so by the enquiry's answer, and the other way round
+  is-ready : (i : ℕ) → ready D i ≡ true → Ready m i
+  is-ready i r = ready-enquiry m D stands i r
+
+  by-state : (i : ℕ) → Ready m i → ready D i ≡ true
+  by-state i r = enquiry-ready m D stands i r
+
+  none-ready : ((i : ℕ) → Ready m i → ⊥) → (out : List ℕ) → collectCall m out ≡ record { answer = done 0 0; memory = m; output = out }
   unfolding stepped outputBytes
-  none-ready none out =
-      collected out _ (half .none-ready none (length out))
+  none-ready idle out =
+      collected out _ (half .none-ready (λ i. either (ready D i) (λ r. absurd (idle i (is-ready i r))) (λ r. r)) (length out))
       ∙ ap (λ (l : List ℕ). record { answer = done 0 0; memory = l; output = out }) (decoder-laws .self m small forms)
 
-  one-ready : (k : ℕ) → ready D k ≡ true → (i : ℕ) × LowestReady D i
-      × ((out : List ℕ) → length (instructionWire (acknowledge i)) ≤ length out
-      → collectCall m out
-      ≡ record {
-        answer = done (length (instructionWire (acknowledge i))) 0;
-        memory = overlayDecoder (without D i) m;
-        output = overlay out 0 (instructionWire (acknowledge i));
-      })
-      × ((out : List ℕ) → length out < length (instructionWire (acknowledge i)) → collectCall m out ≡ refused m out no-room)
+  -- the ready entry of lowest index is freed
+  frees : (k : ℕ) → ready D k ≡ true → (i : ℕ) × LowestReady D i × Frees m i
   unfolding stepped outputBytes
-  one-ready k now =
+  frees k now =
       let one = half .one-ready k now in (
         one .0,
         one .1,
-        λ out fits. collected out _ (one .2 (length out) fits),
-        λ out short. collected out _ (one .3 (length out) short) ∙ ap (λ (l : List ℕ). refused l out no-room) (decoder-laws .self m small forms),
+        record {
+          freed = λ out fits. collected out _ (one .2 (length out) fits);
+          no-room = λ out short. collected out _ (one .3 (length out) short) ∙ ap (λ (l : List ℕ). refused l out no-room) (decoder-laws .self m small forms);
+        },
       )
 
-  ready-memory : ReadyHalf m
-  ready-memory = record { exactly = λ i d e. (ready-unreachable i d e, unreachable-ready i d e); none-ready = none-ready; one-ready = one-ready }
+  -- an entry that is ready is under deletion
+  deleted : (i : ℕ) → ready D i ≡ true → (d : Delete) × (deleteOf D i ≡ some d)
+  unfolding ready readyDelete
+  deleted i = go (deleteOf D i)
+    where
+      go : (o : Option Delete) → readyDelete (D .finished) o ≡ true → (d : Delete) × (o ≡ some d)
+      go none r = nope (cc)
+      go (some d) r = (d, refl)
 
-ready-stands : (m : List ℕ) (D : Decoder) → StandsDecoder m D → ReadyHalf m
-ready-stands m D h = ready-memory m (h .small) (h .forms)
+  pub ready-memory : ReadyHalf m (deleteOf D)
+  ready-memory = record {
+    exactly = λ i d e. (λ r. ready-unreachable i d e (by-state i r), λ out. is-ready i (unreachable-ready i d e out));
+    none-ready = none-ready;
+    one-ready = λ k r.
+        let f = frees k (by-state k r) in
+        let d = deleted (f .0) (f .1 .ready-now) in
+        (f .0, d .0, d .1, is-ready (f .0) (f .1 .ready-now), f .2);
+    lowest-freed = λ k r. let f = frees k (by-state k r) in (f .0, f .2, λ j s. f .1 .first j (by-state j s));
+  }
+
+-- the deletions by history are those of memory
+ready-after : (m : List ℕ) (D : Decoder) → StandsDecoder m D → (deletions : ℕ → Option Delete) → ((i : ℕ) → deleteOf (decoderOf m) i ≡ deletions i)
+    → ReadyHalf m deletions
+ready-after m D h deletions same = subst (ReadyHalf m) (fun-ext same) (ready-memory m (h .small) (h .forms))
 
 pub ready-claim : ReadyClaim
 ready-claim = record {
-  from-start = λ m limit small started cs bytes. ready-stands _ _ (after-decoder _ _ (start-decoder m limit small started) cs bytes);
-  from-state = λ m small forms cs bytes. ready-stands _ _ (after-decoder m _ (stands-self-decoder m small forms) cs bytes);
+  from-start = λ m limit small started cs bytes.
+      ready-after _ _ (after-decoder _ _ (start-decoder m limit small started) cs bytes) _ (agree-start m limit small started cs bytes .deletion);
+  from-state = λ m small forms cs bytes.
+      ready-after _ _ (after-decoder m _ (stands-self-decoder m small forms) cs bytes) _ (agree-state m small forms cs bytes .deletion);
 }

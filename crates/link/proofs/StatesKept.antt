@@ -6,7 +6,6 @@ use native.Mathlib.Omega.{arith}
 use mathlib.Core.Bool.{Bool, true, false, _||_}
 use mathlib.Core.Option.{Option, none, some}
 use mathlib.Core.List.{List}
-use lib.Dec.{leb}
 use Rattle.memory.specs.Bytes.{Small}
 use Rattle.memory.proofs.Order.{pick-both}
 use Rattle.statics.specs.Table.{entryAt}
@@ -14,9 +13,9 @@ use Rattle.statics.proofs.Places.{name-small}
 use Rattle.wire.specs.Name.{Name, indexed, literal}
 use Rattle.instructions.specs.Instruction.{insert, delete, acknowledge}
 use Rattle.instructions.proofs.Lengths.{SmallName, SmallText}
-use Rattle.blocks.specs.Meaning.{Slot, holds, withStatics}
+use Rattle.blocks.specs.Meaning.{Slot, holds, isStatic, withStatics}
 use Rattle.model.specs.Table.{look}
-use Rattle.model.specs.Parts.{Part, Marks, samePart, mark, markBoth, streams}
+use Rattle.model.specs.Parts.{Part, Marks, samePart, mark, markBoth, Closing, ended, closed, streams}
 use Rattle.model.specs.Outcome.{Outcome}
 use Rattle.model.specs.Decoder.{Held, heldIndex, Decoder, slotIn, lookup, slotName, nameBytes, startDecoder, without}
 use Rattle.model.specs.DecoderCalls.{decoderCall}
@@ -48,13 +47,16 @@ module _ (s : ℕ) (below : s < streams) (marks : Marks) (others : MarksBelow ma
   unfolding markBoth
   both-below t q high = pick-eq (λ (b : Bool). b ≡ false) s t true (marks t q) (λ e. absurd (omega arith)) (λ e. others t q high)
 
+  closed-below : (k : Closing) → MarksBelow (closed k s marks)
+  closed-below ended = both-below
+
 -- ---- the decoder
 
 -- the strings of a call are bytes
 abbrev pub SmallDecoderCall : at-decoder.DecoderCall → Type 0
 SmallDecoderCall (at-decoder.read i taken) = SmallText i
 SmallDecoderCall (at-decoder.block s part rs room) = Unit {0}
-SmallDecoderCall (at-decoder.ended s) = Unit {0}
+SmallDecoderCall (at-decoder.close k s) = Unit {0}
 SmallDecoderCall (at-decoder.collect room) = Unit {0}
 SmallDecoderCall (at-decoder.hold i) = Unit {0}
 SmallDecoderCall (at-decoder.unread number) = Unit {0}
@@ -74,7 +76,7 @@ decoder-marks D B (at-decoder.read (delete i plain trailer) taken) = decoder.del
 decoder-marks D B (at-decoder.read (acknowledge i) taken) = decoder.acknowledge-ways Unmarked D (λ a z. B) i taken
 decoder-marks D B (at-decoder.block s part rs room) =
     decoder.block-ways Unmarked D (λ a z. B) s part rs room (λ p fs e below turn m fits. mark-below s below (D .finished) B p)
-decoder-marks D B (at-decoder.ended s) = decoder.end-ways Unmarked D (λ a z. B) s (λ below. both-below s below (D .finished) B)
+decoder-marks D B (at-decoder.close k s) = decoder.close-ways Unmarked D (λ a z. B) k s (λ below. closed-below s below (D .finished) B k)
 decoder-marks D B (at-decoder.collect room) = decoder.collect-ways Unmarked D (λ a z. B) room (λ e. B) (λ h e f. B)
 decoder-marks D B (at-decoder.hold i) = decoder.hold-ways Unmarked D (λ a z. B) i (λ d e. B)
 decoder-marks D B (at-decoder.unread number) = B
@@ -93,7 +95,7 @@ module _ (D : Decoder) (S : Each SmallHeld (D .entries)) where
   found-small : (n : Name) → SmallName n → (name : List ℕ) → nameBytes (lookup D) n ≡ some name → Small name
   unfolding nameBytes lookup withStatics
   found-small (indexed i) s name e =
-      pick-both (λ (t : Slot). slotName t ≡ some name → Small name) (leb i 61) (holds (entryAt i)) (slotIn (look heldIndex i (D .entries)))
+      pick-both (λ (t : Slot). slotName t ≡ some name → Small name) (isStatic i) (holds (entryAt i)) (slotIn (look heldIndex i (D .entries)))
       (λ t q. static-small i name q)
       (λ t q. slot-small (look heldIndex i (D .entries)) (each-found SmallHeld heldIndex (D .entries) S i) name q)
       e
@@ -111,7 +113,7 @@ decoder-bytes D S (at-decoder.read (delete i plain trailer) taken) b = decoder.d
 decoder-bytes D S (at-decoder.read (acknowledge i) taken) b = decoder.acknowledge-ways HeldBytes D (λ a z. S) i taken
 decoder-bytes D S (at-decoder.block s part rs room) b =
     decoder.block-ways HeldBytes D (λ a z. S) s part rs room (λ p fs e below turn m fits. S)
-decoder-bytes D S (at-decoder.ended s) b = decoder.end-ways HeldBytes D (λ a z. S) s (λ below. S)
+decoder-bytes D S (at-decoder.close k s) b = decoder.close-ways HeldBytes D (λ a z. S) k s (λ below. S)
 decoder-bytes D S (at-decoder.collect room) b =
     decoder.collect-ways HeldBytes D (λ a z. S) room (λ e. S) (λ h e f. each-cut SmallHeld heldIndex (h .index) (D .entries) S)
 decoder-bytes D S (at-decoder.hold i) b = decoder.hold-ways HeldBytes D (λ a z. S) i (λ d e. S)

@@ -22,7 +22,7 @@ use Rattle.model.proofs.Tables.{nope}
 use Rattle.model.proofs.Linking.{said-append, freed-append, heard-append, acknowledged-append}
 use Rattle.reply.specs.Result.{Result}
 use Rattle.link.specs.Calls as calls
-use Rattle.link.specs.Claims.{Event, managementIn, readOf, readIn, acknowledgementsIn, acknowledgedOf, acknowledgedIn, Managed, Acknowledges}
+use Rattle.link.specs.Claims.{Event, managementIn, readOf, readIn, acknowledgementsIn, acknowledgedOf, acknowledgedIn, MayRead, Managed, Acknowledges}
 use Rattle.link.proofs.Wires.{Border, border-start, border-more, border-next, Whole, Ends, beginning}
 use Rattle.link.proofs.Wires.{for-decoder, for-encoder}
 use Rattle.link.proofs.Steps.{ReadAs, Step, said, wrote, acknowledged, heard, offered, freed, told, quiet, byteOf, modelOf, bytes, modelled}
@@ -122,28 +122,29 @@ read-snoc [] e = omega arith
 read-snoc (x ∷ es) e = omega (arith, read-snoc es e)
 
 module _ (is : List Instruction) (h : ℕ) where
-  heard-moves : (st : Step) → ((s : List ℕ) (r : Result) → byteOf st ≡ Event.heard s r → Whole readForDecoder is h s ⊎ Ends readForDecoder Managed s)
+  heard-moves : (st : Step) → ((n : ℕ) (s : List ℕ) (r : Result) → byteOf st ≡ Event.byDecoder n (calls.DecoderCall.read s) r → Whole readForDecoder is h s ⊎ Ends readForDecoder Managed s)
       → Moves is h (model.heardIn (modelOf st ∷ [])) (readOf (byteOf st))
   unfolding model.heardIn
   heard-moves (said c r i f) w = inl (refl, refl)
   heard-moves (wrote stream part s out r fs rs f) w = inl (refl, refl)
   heard-moves (acknowledged s r i f) w = inl (refl, refl)
-  heard-moves (heard s r i f) w = read-moves readForDecoder Managed is h s r i f (w s r refl)
+  heard-moves (heard n s r i f) w = read-moves readForDecoder Managed is h s r i f (w n s r refl)
   heard-moves (offered n stream part s out r rs o f) w = inl (refl, refl)
-  heard-moves (freed out r i f e) w = inl (refl, refl)
-  heard-moves (told stream r z) w = inl (refl, refl)
+  heard-moves (freed n out r i f e) w = inl (refl, refl)
+  heard-moves (told n k stream r z) w = inl (refl, refl)
   heard-moves (steps.Step.reset stream) w = inl (refl, refl)
   heard-moves (quiet e q) w = inl (refl, q .read)
 
-module _ (ss : List Step) (rule : (xs ys : List Event) (s : List ℕ) (r : Result) → bytes ss ≡ xs ++ (Event.heard s r ∷ ys)
-    → (rest : List ℕ) × (drop (readIn xs) (managementIn xs) ≡ s ++ rest)) where
+module _ (ss : List Step) (rule : (xs ys : List Event) (n : ℕ) (s : List ℕ) (r : Result)
+    → bytes ss ≡ xs ++ (Event.byDecoder n (calls.DecoderCall.read s) r ∷ ys) → MayRead (managementIn xs) (readIn xs) s) where
   abbrev Heard : List Step → Type 0
   Heard xs = Border (model.saidIn (modelled xs)) (model.heardIn (modelled xs)) (readIn (bytes xs))
 
-  heard-whole : (xs : List Step) (st : Step) (ys : List Step) → ss ≡ xs ++ (st ∷ ys) → Heard xs → (s : List ℕ) (r : Result) → byteOf st ≡ Event.heard s r
+  heard-whole : (xs : List Step) (st : Step) (ys : List Step) → ss ≡ xs ++ (st ∷ ys) → Heard xs → (n : ℕ) (s : List ℕ) (r : Result)
+      → byteOf st ≡ Event.byDecoder n (calls.DecoderCall.read s) r
       → Whole readForDecoder (model.saidIn (modelled xs)) (model.heardIn (modelled xs)) s ⊎ Ends readForDecoder Managed s
-  heard-whole xs st ys q B s r e =
-      let g = rule (bytes xs) (bytes ys) s r (events-around byteOf ss xs st ys q _ e) in
+  heard-whole xs st ys q B n s r e =
+      let g = rule (bytes xs) (bytes ys) n s r (events-around byteOf ss xs st ys q _ e) in
       beginning readForDecoder Managed for-decoder (model.saidIn (modelled xs)) (model.heardIn (modelled xs)) (readIn (bytes xs)) (each-said xs) B s (g .0)
       (ap (drop (readIn (bytes xs))) (sym (management-said xs)) ∙ g .1)
 
@@ -165,7 +166,8 @@ module _ (ss : List Step) (rule : (xs ys : List Event) (s : List ℕ) (r : Resul
   heard-border = along Heard ss heard-keeps heard-start
 
   -- what a read gets
-  pub heard-next : (xs : List Step) (st : Step) (ys : List Step) → ss ≡ xs ++ (st ∷ ys) → (s : List ℕ) (r : Result) → byteOf st ≡ Event.heard s r
+  pub heard-next : (xs : List Step) (st : Step) (ys : List Step) → ss ≡ xs ++ (st ∷ ys) → (n : ℕ) (s : List ℕ) (r : Result)
+      → byteOf st ≡ Event.byDecoder n (calls.DecoderCall.read s) r
       → Whole readForDecoder (model.saidIn (modelled xs)) (model.heardIn (modelled xs)) s ⊎ Ends readForDecoder Managed s
   heard-next xs st ys q = heard-whole xs st ys q (heard-border xs (st ∷ ys) q)
 
@@ -181,26 +183,26 @@ acknowledgements xs = map acknowledge (model.freedIn (modelled xs))
 
 module _ (is : List Instruction) (h : ℕ) where
   acknowledged-moves : (st : Step)
-      → ((s : List ℕ) (r : Result) → byteOf st ≡ Event.wrote (calls.EncoderCall.acknowledge s) r → Whole readForEncoder is h s ⊎ Ends readForEncoder Acknowledges s)
+      → ((s : List ℕ) (r : Result) → byteOf st ≡ Event.byEncoder (calls.EncoderCall.acknowledge s) r → Whole readForEncoder is h s ⊎ Ends readForEncoder Acknowledges s)
       → Moves is h (model.acknowledgedIn (modelOf st ∷ [])) (acknowledgedOf (byteOf st))
   unfolding model.acknowledgedIn
   acknowledged-moves (said c r i f) w = inl (refl, said-acknowledged c r (f .speaks))
   acknowledged-moves (wrote stream part s out r fs rs f) w = inl (refl, refl)
   acknowledged-moves (acknowledged s r i f) w = read-moves readForEncoder Acknowledges is h s r (acknowledge i) f (w s r refl)
-  acknowledged-moves (heard s r i f) w = inl (refl, refl)
+  acknowledged-moves (heard n s r i f) w = inl (refl, refl)
   acknowledged-moves (offered n stream part s out r rs o f) w = inl (refl, refl)
-  acknowledged-moves (freed out r i f e) w = inl (refl, refl)
-  acknowledged-moves (told stream r z) w = inl (refl, refl)
+  acknowledged-moves (freed n out r i f e) w = inl (refl, refl)
+  acknowledged-moves (told n k stream r z) w = inl (refl, refl)
   acknowledged-moves (steps.Step.reset stream) w = inl (refl, refl)
   acknowledged-moves (quiet e q) w = inl (refl, q .acknowledged)
 
-module _ (ss : List Step) (rule : (xs ys : List Event) (s : List ℕ) (r : Result) → bytes ss ≡ xs ++ (Event.wrote (calls.EncoderCall.acknowledge s) r ∷ ys)
-    → (rest : List ℕ) × (drop (acknowledgedIn xs) (acknowledgementsIn xs) ≡ s ++ rest)) where
+module _ (ss : List Step) (rule : (xs ys : List Event) (s : List ℕ) (r : Result) → bytes ss ≡ xs ++ (Event.byEncoder (calls.EncoderCall.acknowledge s) r ∷ ys)
+    → MayRead (acknowledgementsIn xs) (acknowledgedIn xs) s) where
   abbrev Acked : List Step → Type 0
   Acked xs = Border (acknowledgements xs) (model.acknowledgedIn (modelled xs)) (acknowledgedIn (bytes xs))
 
   acked-whole : (xs : List Step) (st : Step) (ys : List Step) → ss ≡ xs ++ (st ∷ ys) → Acked xs → (s : List ℕ) (r : Result)
-      → byteOf st ≡ Event.wrote (calls.EncoderCall.acknowledge s) r
+      → byteOf st ≡ Event.byEncoder (calls.EncoderCall.acknowledge s) r
       → Whole readForEncoder (acknowledgements xs) (model.acknowledgedIn (modelled xs)) s ⊎ Ends readForEncoder Acknowledges s
   acked-whole xs st ys q B s r e =
       let g = rule (bytes xs) (bytes ys) s r (events-around byteOf ss xs st ys q _ e) in
@@ -224,7 +226,7 @@ module _ (ss : List Step) (rule : (xs ys : List Event) (s : List ℕ) (r : Resul
 
   -- what a read of an acknowledgement gets
   pub acked-next : (xs : List Step) (st : Step) (ys : List Step) → ss ≡ xs ++ (st ∷ ys) → (s : List ℕ) (r : Result)
-      → byteOf st ≡ Event.wrote (calls.EncoderCall.acknowledge s) r
+      → byteOf st ≡ Event.byEncoder (calls.EncoderCall.acknowledge s) r
       → Whole readForEncoder (acknowledgements xs) (model.acknowledgedIn (modelled xs)) s ⊎ Ends readForEncoder Acknowledges s
   acked-next xs st ys q = acked-whole xs st ys q (along Acked ss acked-keeps acked-start xs (st ∷ ys) q)
 

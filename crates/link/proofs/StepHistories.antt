@@ -15,24 +15,27 @@ use Rattle.memory.specs.Choice.{pick}
 use Rattle.memory.proofs.Places.{has-all}
 use Rattle.memory.proofs.Order.{pick-true}
 use Rattle.fields.specs.Form.{listForm}
-use Rattle.instructions.specs.Instruction.{Instruction, insert, delete, acknowledge, FineIndex, instructionWire}
+use Rattle.instructions.specs.Instruction.{Instruction, insert, delete, acknowledge, FineIndex, Manages, instructionWire}
 use Rattle.instructions.specs.Reading.{readForDecoder, readForEncoder, onInstruction, instructionOf}
 use Rattle.instructions.specs.declared.read.InstructionPlace.{InstructionPlace}
 use Rattle.instructions.specs.declared.read.InstructionRead.{InstructionRead}
 use Rattle.instructions.specs.declared.read.InstructionRead.the-variants.{Found}
 use Rattle.instructions.proofs.Back.{encoder-back}
+use Rattle.instructions.proofs.Bounds.{decoder-good}
 use Rattle.blocks.specs.Reading.{block, readBlock}
+use Rattle.model.specs.Happened.{Happened, inserted, doneBy, after, heldBy}
 use Rattle.model.specs.Link.{at}
 use Rattle.model.specs.Link as model
 use Rattle.model.proofs.Tables.{nope}
 use Rattle.model.proofs.Linking.{at-end}
+use Rattle.model.proofs.HappenedLists.{after-append}
 use Rattle.state_laws.proofs.Each.{Each}
 use Rattle.reply.specs.Result.{Result}
-use Rattle.link.specs.Calls.{EncoderCall}
+use Rattle.link.specs.Calls.{EncoderCall, doneBytes}
 use Rattle.link.specs.Calls as calls
+use Rattle.link.specs.Happened.{happened}
 use Rattle.link.specs.Claims.{
   Event,
-  doneBytes,
   managementOf,
   managementIn,
   acknowledgementsIn,
@@ -40,10 +43,8 @@ use Rattle.link.specs.Claims.{
   Written,
   writtenOf,
   writtenFrom,
-  insertsAt,
-  acknowledgesAt,
-  heldBy,
-  heldFrom,
+  happenedOf,
+  happenedIn,
   Managed,
   Acknowledges,
 }
@@ -53,19 +54,19 @@ use Rattle.link.proofs.Steps.{Speaks, ReadAs, Step, said, wrote, acknow
 use Rattle.link.proofs.Steps as steps
 
 -- ---- an insert or a delete on bytes
-said-management : (c : EncoderCall) (r : Result) → Speaks c → managementOf (Event.wrote c r) ≡ doneBytes r
+said-management : (c : EncoderCall) (r : Result) → Speaks c → managementOf (Event.byEncoder c r) ≡ doneBytes r
 said-management (calls.EncoderCall.insert name value out) r f = refl
 said-management (calls.EncoderCall.delete index out) r f = refl
 said-management (calls.EncoderCall.block stream part s out) r f = absurd f
 said-management (calls.EncoderCall.acknowledge s) r f = absurd f
 
-pub said-acknowledged : (c : EncoderCall) (r : Result) → Speaks c → acknowledgedOf (Event.wrote c r) ≡ 0
+pub said-acknowledged : (c : EncoderCall) (r : Result) → Speaks c → acknowledgedOf (Event.byEncoder c r) ≡ 0
 said-acknowledged (calls.EncoderCall.insert name value out) r f = refl
 said-acknowledged (calls.EncoderCall.delete index out) r f = refl
 said-acknowledged (calls.EncoderCall.block stream part s out) r f = absurd f
 said-acknowledged (calls.EncoderCall.acknowledge s) r f = absurd f
 
-said-written : (c : EncoderCall) (r : Result) → Speaks c → (k : ℕ) → writtenOf k (Event.wrote c r) ≡ []
+said-written : (c : EncoderCall) (r : Result) → Speaks c → (k : ℕ) → writtenOf k (Event.byEncoder c r) ≡ []
 said-written (calls.EncoderCall.insert name value out) r f k = refl
 said-written (calls.EncoderCall.delete index out) r f k = refl
 said-written (calls.EncoderCall.block stream part s out) r f k = absurd f
@@ -79,10 +80,10 @@ management-said (said c r i f ∷ ss) =
     ap₂ (λ (l m : List ℕ). l ++ m) (said-management c r (f .speaks) ∙ f .bytes) (management-said ss)
 management-said (wrote stream part s out r fs rs f ∷ ss) = management-said ss
 management-said (acknowledged s r i f ∷ ss) = management-said ss
-management-said (heard s r i f ∷ ss) = management-said ss
+management-said (heard n s r i f ∷ ss) = management-said ss
 management-said (offered n stream part s out r rs o f ∷ ss) = management-said ss
-management-said (freed out r i f e ∷ ss) = management-said ss
-management-said (told stream r z ∷ ss) = management-said ss
+management-said (freed n out r i f e ∷ ss) = management-said ss
+management-said (told n k stream r z ∷ ss) = management-said ss
 management-said (steps.Step.reset stream ∷ ss) = management-said ss
 management-said (quiet e q ∷ ss) = ap₂ (λ (l m : List ℕ). l ++ m) (q .management) (management-said ss)
 
@@ -92,10 +93,10 @@ acknowledgements-freed [] = refl
 acknowledgements-freed (said c r i f ∷ ss) = acknowledgements-freed ss
 acknowledgements-freed (wrote stream part s out r fs rs f ∷ ss) = acknowledgements-freed ss
 acknowledgements-freed (acknowledged s r i f ∷ ss) = acknowledgements-freed ss
-acknowledgements-freed (heard s r i f ∷ ss) = acknowledgements-freed ss
+acknowledgements-freed (heard n s r i f ∷ ss) = acknowledgements-freed ss
 acknowledgements-freed (offered n stream part s out r rs o f ∷ ss) = acknowledgements-freed ss
-acknowledgements-freed (freed out r i f e ∷ ss) = ap₂ (λ (l m : List ℕ). l ++ m) e (acknowledgements-freed ss)
-acknowledgements-freed (told stream r z ∷ ss) = acknowledgements-freed ss
+acknowledgements-freed (freed n out r i f e ∷ ss) = ap₂ (λ (l m : List ℕ). l ++ m) e (acknowledgements-freed ss)
+acknowledgements-freed (told n k stream r z ∷ ss) = acknowledgements-freed ss
 acknowledgements-freed (steps.Step.reset stream ∷ ss) = acknowledgements-freed ss
 acknowledgements-freed (quiet e q ∷ ss) = ap₂ (λ (l m : List ℕ). l ++ m) (q .acknowledgement) (acknowledgements-freed ss)
 
@@ -106,10 +107,10 @@ each-said [] = tt
 each-said (said c r i f ∷ ss) = ((f .manages, f .fine), each-said ss)
 each-said (wrote stream part s out r fs rs f ∷ ss) = each-said ss
 each-said (acknowledged s r i f ∷ ss) = each-said ss
-each-said (heard s r i f ∷ ss) = each-said ss
+each-said (heard n s r i f ∷ ss) = each-said ss
 each-said (offered n stream part s out r rs o f ∷ ss) = each-said ss
-each-said (freed out r i f e ∷ ss) = each-said ss
-each-said (told stream r z ∷ ss) = each-said ss
+each-said (freed n out r i f e ∷ ss) = each-said ss
+each-said (told n k stream r z ∷ ss) = each-said ss
 each-said (steps.Step.reset stream ∷ ss) = each-said ss
 each-said (quiet e q ∷ ss) = each-said ss
 
@@ -119,54 +120,71 @@ each-freed [] = tt
 each-freed (said c r i f ∷ ss) = each-freed ss
 each-freed (wrote stream part s out r fs rs f ∷ ss) = each-freed ss
 each-freed (acknowledged s r i f ∷ ss) = each-freed ss
-each-freed (heard s r i f ∷ ss) = each-freed ss
+each-freed (heard n s r i f ∷ ss) = each-freed ss
 each-freed (offered n stream part s out r rs o f ∷ ss) = each-freed ss
-each-freed (freed out r i f e ∷ ss) = ((i, refl, f), each-freed ss)
-each-freed (told stream r z ∷ ss) = each-freed ss
+each-freed (freed n out r i f e ∷ ss) = ((i, refl, f), each-freed ss)
+each-freed (told n k stream r z ∷ ss) = each-freed ss
 each-freed (steps.Step.reset stream ∷ ss) = each-freed ss
 each-freed (quiet e q ∷ ss) = each-freed ss
 
 -- ---- slots held
-and-false : (b : Bool) → (b && false) ≡ false
-and-false true = refl
-and-false false = refl
 
-inserts-held : (j : Instruction) (b : Bool) (i n : ℕ) (h : Bool) → b ≡ eqb n 0 → pick (b && insertsAt i j) true h ≡ model.heldBy j n i h
-inserts-held (insert j name value) b i n h e = ap (λ (t : Bool). pick (t && eqb j i) true h) e
-inserts-held (delete j plain last) b i n h e = ap (λ (t : Bool). pick t true h) (and-false b)
-inserts-held (acknowledge j) b i n h e = ap (λ (t : Bool). pick t true h) (and-false b)
+-- what an event did, before the later ones
+held-next : (i : ℕ) (h : Bool) (e : Event) (es : List Event) (xs : List Happened) → happenedOf e ≡ xs
+    → after (heldBy i) h (happenedIn (e ∷ es)) ≡ after (heldBy i) (after (heldBy i) h xs) (happenedIn es)
+unfolding happenedIn
+held-next i h e es xs d = ap (λ (l : List Happened). after (heldBy i) h (l ++ happenedIn es)) d ∙ after-append (heldBy i) h xs (happenedIn es)
 
-on-found : (s : List ℕ) (q : InstructionRead) (p : InstructionPlace) (taken : ℕ) (f : Instruction → Bool) (j : Instruction)
-    → q ≡ Found p taken → instructionOf s p ≡ j → onInstruction (λ n. false) q (λ p taken. f (instructionOf s p)) ≡ f j
-on-found s q p taken f j e d = rw e (ap f d)
+held-one : (i : ℕ) (h : Bool) (b : Bool) (j : Instruction) (n : ℕ) → Manages j → b ≡ eqb n 0 → after (heldBy i) h (pick b (doneBy j) []) ≡ model.heldBy j n i h
+unfolding after heldBy
+held-one i h b (insert j name value) n m e = pick-over b (eqb j i) h ∙ ap (λ (t : Bool). pick (t && eqb j i) true h) e
+  where
+    pick-over : (a c h : Bool) → after (heldBy i) h (pick a (inserted j name value ∷ []) []) ≡ pick (a && eqb j i) true h
+    pick-over true c h = refl
+    pick-over false c h = refl
+held-one i h true (delete j plain last) n m e = refl
+held-one i h false (delete j plain last) n m e = refl
+held-one i h b (acknowledge j) n m e = absurd m
 
-heard-held : (s : List ℕ) (r : Result) (j : Instruction) → ReadAs readForDecoder s r j → (i : ℕ) (h : Bool)
-    → heldBy i (Event.heard s r) h ≡ model.heldBy j (r .answer .number) i h
-heard-held s r j f i h =
-    ap (λ (t : Bool). pick (eqb (r .answer .number) 0 && t) true h)
-    (on-found s (readForDecoder s) (f .place) (f .taken) (insertsAt i) j (f .found) (f .same))
-    ∙ inserts-held j (eqb (r .answer .number) 0) i (r .answer .number) h refl
+on-found : (s : List ℕ) (q : InstructionRead) (p : InstructionPlace) (taken : ℕ) (j : Instruction)
+    → q ≡ Found p taken → instructionOf s p ≡ j → onInstruction (λ n. []) q (λ p taken. doneBy (instructionOf s p)) ≡ doneBy j
+on-found s q p taken j e d = rw e (ap doneBy d)
 
-freed-held : (b : List ℕ) (i j : ℕ) → FineIndex j → b ≡ instructionWire (acknowledge j)
-    → onInstruction (λ n. false) (readForEncoder b) (λ p taken. acknowledgesAt i (instructionOf b p)) ≡ eqb j i
-freed-held b i j f e =
+heard-did : (s : List ℕ) (r : Result) (j : Instruction) → ReadAs readForDecoder s r j
+    → happened (calls.DecoderCall.read s) r ≡ pick (eqb (r .answer .number) 0) (doneBy j) []
+unfolding happened
+heard-did s r j f =
+    ap (λ (l : List Happened). pick (eqb (r .answer .number) 0) l []) (on-found s (readForDecoder s) (f .place) (f .taken) j (f .found) (f .same))
+
+heard-manages : (s : List ℕ) (r : Result) (j : Instruction) → ReadAs readForDecoder s r j → Manages j
+heard-manages s r j f = subst Manages (f .same) (decoder-good s (f .place) (f .taken) (f .found) .kind)
+
+freed-did : (out : List ℕ) (r : Result) (j : ℕ) → FineIndex j → doneBytes r ≡ instructionWire (acknowledge j)
+    → happened (calls.DecoderCall.collect out) r ≡ doneBy (acknowledge j)
+unfolding happened
+freed-did out r j f e =
+    let b : List ℕ = doneBytes r in
     let g = encoder-back b j f (subst (Has b 0) e (has-all b)) in
-    on-found b (readForEncoder b) (g .0) (length (instructionWire (acknowledge j))) (acknowledgesAt i) (acknowledge j) (g .1) (g .2)
+    on-found b (readForEncoder b) (g .0) (length (instructionWire (acknowledge j))) (acknowledge j) (g .1) (g .2)
 
-pub held-same : (ss : List Step) (h : Bool) (i : ℕ) → heldFrom h (bytes ss) i ≡ model.heldFrom h (modelled ss) i
-unfolding heldFrom model.heldFrom
+pub held-same : (ss : List Step) (h : Bool) (i : ℕ) → after (heldBy i) h (happenedIn (bytes ss)) ≡ model.heldFrom h (modelled ss) i
+unfolding happenedIn happened after heldBy model.heldFrom
 held-same [] h i = refl
 held-same (said c r j f ∷ ss) h i = held-same ss h i
 held-same (wrote stream part s out r fs rs f ∷ ss) h i = held-same ss h i
 held-same (acknowledged s r j f ∷ ss) h i = held-same ss h i
-held-same (heard s r j f ∷ ss) h i =
-    ap (λ (t : Bool). heldFrom t (bytes ss) i) (heard-held s r j f i h) ∙ held-same ss (model.heldBy j (r .answer .number) i h) i
+held-same (heard n s r j f ∷ ss) h i =
+    held-next i h (Event.byDecoder n (calls.DecoderCall.read s) r) (bytes ss) _ (heard-did s r j f)
+    ∙ ap (λ (t : Bool). after (heldBy i) t (happenedIn (bytes ss)))
+    (held-one i h (eqb (r .answer .number) 0) j (r .answer .number) (heard-manages s r j f) refl)
+    ∙ held-same ss (model.heldBy j (r .answer .number) i h) i
 held-same (offered n stream part s out r rs o f ∷ ss) h i = held-same ss h i
-held-same (freed out r j f e ∷ ss) h i =
-    ap (λ (t : Bool). heldFrom (pick t false h) (bytes ss) i) (freed-held (doneBytes r) i j f e) ∙ held-same ss (pick (eqb j i) false h) i
-held-same (told stream r z ∷ ss) h i = held-same ss h i
+held-same (freed n out r j f e ∷ ss) h i =
+    held-next i h (Event.byDecoder n (calls.DecoderCall.collect out) r) (bytes ss) _ (freed-did out r j f e)
+    ∙ held-same ss (pick (eqb j i) false h) i
+held-same (told n k stream r z ∷ ss) h i = held-same ss h i
 held-same (steps.Step.reset stream ∷ ss) h i = held-same ss h i
-held-same (quiet e q ∷ ss) h i = ap (λ (t : Bool). heldFrom t (bytes ss) i) (q .held i h) ∙ held-same ss h i
+held-same (quiet e q ∷ ss) h i = held-next i h e (bytes ss) [] (q .happened) ∙ held-same ss h i
 
 -- ---- blocks written
 
@@ -229,14 +247,14 @@ alike-from : (is : List Instruction) (h k : ℕ) → length is ≡ h → Border 
 unfolding writtenFrom model.writtenFrom model.saidIn
 alike-from is h k g b [] = tt
 alike-from is h k g b (said c r i f ∷ ss) =
-    let e = from-next (Event.wrote c r) k (bytes ss) (instructionWire i) [] (said-management c r (f .speaks) ∙ f .bytes) (said-written c r (f .speaks) k) in
+    let e = from-next (Event.byEncoder c r) k (bytes ss) (instructionWire i) [] (said-management c r (f .speaks) ∙ f .bytes) (said-written c r (f .speaks) k) in
     let vs = model.writtenFrom (suc h) (modelled ss) in
-    subst (λ (l : List Instruction). Alike l (writtenFrom k (Event.wrote c r ∷ bytes ss)) vs) (append-snoc is i (model.saidIn (modelled ss)))
+    subst (λ (l : List Instruction). Alike l (writtenFrom k (Event.byEncoder c r ∷ bytes ss)) vs) (append-snoc is i (model.saidIn (modelled ss)))
     (subst (λ (ws : List Written). Alike ((is ++ (i ∷ [])) ++ model.saidIn (modelled ss)) ws vs) (sym e)
     (alike-from (is ++ (i ∷ [])) (suc h) (k + length (instructionWire i)) (longer is h k g b i) (further is h k g b i) ss))
 alike-from is h k g b (wrote stream part s out r fs rs f ∷ ss) =
     let w : Written = record { stream = stream; part = part; list = s; bytes = doneBytes r; before = k } in
-    let e : Event = Event.wrote (calls.EncoderCall.block stream part s out) r in
+    let e : Event = Event.byEncoder (calls.EncoderCall.block stream part s out) r in
     let v : model.Written = record { stream = stream; part = part; says = rs; fields = fs; before = h } in
     let vs : List model.Written = v ∷ model.writtenFrom h (modelled ss) in
     let z : eqb (r .answer .number) 0 ≡ true = rw (f .done) refl in
@@ -247,11 +265,11 @@ alike-from is h k g b (wrote stream part s out r fs rs f ∷ ss) =
       alike-from is h k g b ss,
     )
 alike-from is h k g b (acknowledged s r i f ∷ ss) =
-    alike-skip _ k (Event.wrote (calls.EncoderCall.acknowledge s) r) (bytes ss) _ refl refl (alike-from is h k g b ss)
-alike-from is h k g b (heard s r i f ∷ ss) = alike-skip _ k (Event.heard s r) (bytes ss) _ refl refl (alike-from is h k g b ss)
-alike-from is h k g b (offered n stream part s out r rs o f ∷ ss) = alike-skip _ k (Event.offered n stream part s out r) (bytes ss) _ refl refl (alike-from is h k g b ss)
-alike-from is h k g b (freed out r i f e ∷ ss) = alike-skip _ k (Event.collected out r) (bytes ss) _ refl refl (alike-from is h k g b ss)
-alike-from is h k g b (told stream r z ∷ ss) = alike-skip _ k (Event.told stream r) (bytes ss) _ refl refl (alike-from is h k g b ss)
+    alike-skip _ k (Event.byEncoder (calls.EncoderCall.acknowledge s) r) (bytes ss) _ refl refl (alike-from is h k g b ss)
+alike-from is h k g b (heard n s r i f ∷ ss) = alike-skip _ k (Event.byDecoder n (calls.DecoderCall.read s) r) (bytes ss) _ refl refl (alike-from is h k g b ss)
+alike-from is h k g b (offered n stream part s out r rs o f ∷ ss) = alike-skip _ k (Event.byDecoder n (calls.DecoderCall.block stream part s out) r) (bytes ss) _ refl refl (alike-from is h k g b ss)
+alike-from is h k g b (freed n out r i f e ∷ ss) = alike-skip _ k (Event.byDecoder n (calls.DecoderCall.collect out) r) (bytes ss) _ refl refl (alike-from is h k g b ss)
+alike-from is h k g b (told n c stream r z ∷ ss) = alike-skip _ k (Event.byDecoder n (calls.DecoderCall.close c stream) r) (bytes ss) _ refl refl (alike-from is h k g b ss)
 alike-from is h k g b (steps.Step.reset stream ∷ ss) = alike-skip _ k (Event.reset stream) (bytes ss) _ refl refl (alike-from is h k g b ss)
 alike-from is h k g b (quiet e q ∷ ss) = alike-skip _ k e (bytes ss) _ (q .management) (q .written k) (alike-from is h k g b ss)
 

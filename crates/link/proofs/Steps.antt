@@ -3,7 +3,6 @@
 use mathlib.Core.Path.{_≡_, refl}
 use mathlib.Core.Logic.{_⊎_, inl, inr}
 use Prim.Native.Nat.{ℕ}
-use mathlib.Core.Bool.{Bool}
 use mathlib.Core.List.{List, [], map}
 use lib.ListN.{length}
 use Rattle.integers.specs.Answers.{Answer}
@@ -16,12 +15,13 @@ use Rattle.instructions.specs.declared.read.InstructionRead.the-variants.{Found
 use Rattle.blocks.specs.Representation.{Representation}
 use Rattle.blocks.specs.Reading.{block, readBlock}
 use Rattle.blocks.specs.Reading as reading
+use Rattle.model.specs.Parts.{Closing}
 use Rattle.model.specs.Outcome.{Output, outputBytes}
 use Rattle.model.specs.Events as model
 use Rattle.reply.specs.Result.{Result}
-use Rattle.link.specs.Calls.{EncoderCall}
+use Rattle.link.specs.Calls.{DecoderCall, EncoderCall, doneBytes}
 use Rattle.link.specs.Calls as calls
-use Rattle.link.specs.Claims.{Event, doneBytes, managementOf, readOf, acknowledgementOf, acknowledgedOf, writtenOf, heldBy}
+use Rattle.link.specs.Claims.{Event, managementOf, readOf, acknowledgementOf, acknowledgedOf, writtenOf, happenedOf}
 
 -- ---- what ties the two
 
@@ -72,13 +72,16 @@ IdleWrite (calls.EncoderCall.delete index out) r = Unit {0}
 IdleWrite (calls.EncoderCall.block stream part s out) r = Unit {0}
 IdleWrite (calls.EncoderCall.acknowledge s) r = Misread readForEncoder s r
 
+abbrev pub IdleRead : DecoderCall → Result → Type 0
+IdleRead (calls.DecoderCall.read s) r = Misread readForDecoder s r
+IdleRead (calls.DecoderCall.block stream part s out) r = Unreadable s r
+IdleRead (calls.DecoderCall.close k stream) r = r .answer .number ≡ 0 → ⊥
+IdleRead (calls.DecoderCall.collect out) r = Unit {0}
+IdleRead (calls.DecoderCall.hold index) r = Unit {0}
+
 abbrev pub Idle : Event → Type 0
-Idle (Event.wrote c r) = IdleWrite c r
-Idle (Event.heard s r) = Misread readForDecoder s r
-Idle (Event.offered n stream part s out r) = Unreadable s r
-Idle (Event.told stream r) = r .answer .number ≡ 0 → ⊥
-Idle (Event.collected out r) = Unit {0}
-Idle (Event.enquired index r) = Unit {0}
+Idle (Event.byEncoder c r) = IdleWrite c r
+Idle (Event.byDecoder n c r) = IdleRead c r
 Idle (Event.reset stream) = ⊥
 
 pub record Quiet (e : Event) : Type 0 where
@@ -87,7 +90,7 @@ pub record Quiet (e : Event) : Type 0 where
   pub acknowledgement : acknowledgementOf e ≡ []
   pub acknowledged : acknowledgedOf e ≡ 0
   pub written : (k : ℕ) → writtenOf k e ≡ []
-  pub held : (i : ℕ) (h : Bool) → heldBy i e h ≡ h
+  pub happened : happenedOf e ≡ []
   pub idle : Idle e
 
 -- ---- steps
@@ -95,21 +98,21 @@ pub data Step : Type 0 where
   said : (c : EncoderCall) (r : Result) (i : Instruction) → SaidAs c r i → Step
   wrote : (stream part : ℕ) (s out : List ℕ) (r : Result) (fs : List Field) (rs : List Representation) → WrittenAs s r fs rs → Step
   acknowledged : (s : List ℕ) (r : Result) (i : ℕ) → ReadAs readForEncoder s r (acknowledge i) → Step
-  heard : (s : List ℕ) (r : Result) (i : Instruction) → ReadAs readForDecoder s r i → Step
+  heard : (n : ℕ) (s : List ℕ) (r : Result) (i : Instruction) → ReadAs readForDecoder s r i → Step
   offered : (n stream part : ℕ) (s out : List ℕ) (r : Result) (rs : List Representation) (o : Output) → OfferedAs s r rs o → Step
-  freed : (out : List ℕ) (r : Result) (i : ℕ) → FineIndex i → doneBytes r ≡ instructionWire (acknowledge i) → Step
-  told : (stream : ℕ) (r : Result) → r .answer .number ≡ 0 → Step
+  freed : (n : ℕ) (out : List ℕ) (r : Result) (i : ℕ) → FineIndex i → doneBytes r ≡ instructionWire (acknowledge i) → Step
+  told : (n : ℕ) (k : Closing) (stream : ℕ) (r : Result) → r .answer .number ≡ 0 → Step
   reset : ℕ → Step
   quiet : (e : Event) → Quiet e → Step
 
 abbrev pub byteOf : Step → Event
-byteOf (said c r i f) = Event.wrote c r
-byteOf (wrote stream part s out r fs rs f) = Event.wrote (calls.EncoderCall.block stream part s out) r
-byteOf (acknowledged s r i f) = Event.wrote (calls.EncoderCall.acknowledge s) r
-byteOf (heard s r i f) = Event.heard s r
-byteOf (offered n stream part s out r rs o f) = Event.offered n stream part s out r
-byteOf (freed out r i f e) = Event.collected out r
-byteOf (told stream r z) = Event.told stream r
+byteOf (said c r i f) = Event.byEncoder c r
+byteOf (wrote stream part s out r fs rs f) = Event.byEncoder (calls.EncoderCall.block stream part s out) r
+byteOf (acknowledged s r i f) = Event.byEncoder (calls.EncoderCall.acknowledge s) r
+byteOf (heard n s r i f) = Event.byDecoder n (calls.DecoderCall.read s) r
+byteOf (offered n stream part s out r rs o f) = Event.byDecoder n (calls.DecoderCall.block stream part s out) r
+byteOf (freed n out r i f e) = Event.byDecoder n (calls.DecoderCall.collect out) r
+byteOf (told n k stream r z) = Event.byDecoder n (calls.DecoderCall.close k stream) r
 byteOf (reset stream) = Event.reset stream
 byteOf (quiet e q) = e
 
@@ -117,10 +120,10 @@ abbrev pub modelOf : Step → model.Event
 modelOf (said c r i f) = model.said i
 modelOf (wrote stream part s out r fs rs f) = model.wrote stream part fs rs
 modelOf (acknowledged s r i f) = model.acknowledged i (r .answer .number)
-modelOf (heard s r i f) = model.heard i (r .answer .number)
+modelOf (heard n s r i f) = model.heard i (r .answer .number)
 modelOf (offered n stream part s out r rs o f) = model.offered n stream part rs (length out) (r .answer) o
-modelOf (freed out r i f e) = model.freed i
-modelOf (told stream r z) = model.told stream
+modelOf (freed n out r i f e) = model.freed i
+modelOf (told n k stream r z) = model.told k stream
 modelOf (reset stream) = model.Event.reset stream
 modelOf (quiet e q) = model.quiet
 
@@ -149,13 +152,16 @@ WriteTold (calls.EncoderCall.delete index out) r m = Unit {0}
 WriteTold (calls.EncoderCall.block stream part s out) r m = Unit {0}
 WriteTold (calls.EncoderCall.acknowledge s) r m = AcknowledgedAs s r m ⊎ Misread readForEncoder s r
 
+abbrev ReadTold : ℕ → DecoderCall → Result → model.Event → Type 0
+ReadTold n (calls.DecoderCall.read s) r m = HeardAs s r m ⊎ Misread readForDecoder s r
+ReadTold n (calls.DecoderCall.block stream part s out) r m = OfferStep n stream part s out r m ⊎ Unreadable s r
+ReadTold n (calls.DecoderCall.close k stream) r m = Unit {0}
+ReadTold n (calls.DecoderCall.collect out) r m = Unit {0}
+ReadTold n (calls.DecoderCall.hold index) r m = Unit {0}
+
 abbrev pub ByteTold : Event → model.Event → Type 0
-ByteTold (Event.wrote c r) m = WriteTold c r m
-ByteTold (Event.heard s r) m = HeardAs s r m ⊎ Misread readForDecoder s r
-ByteTold (Event.offered n stream part s out r) m = OfferStep n stream part s out r m ⊎ Unreadable s r
-ByteTold (Event.told stream r) m = Unit {0}
-ByteTold (Event.collected out r) m = Unit {0}
-ByteTold (Event.enquired index r) m = Unit {0}
+ByteTold (Event.byEncoder c r) m = WriteTold c r m
+ByteTold (Event.byDecoder n c r) m = ReadTold n c r m
 ByteTold (Event.reset stream) m = m ≡ model.Event.reset stream
 
 said-told : (c : EncoderCall) (r : Result) (m : model.Event) → Speaks c → WriteTold c r m
@@ -170,38 +176,42 @@ idle-write (calls.EncoderCall.delete index out) r m f = tt
 idle-write (calls.EncoderCall.block stream part s out) r m f = tt
 idle-write (calls.EncoderCall.acknowledge s) r m f = inr f
 
+idle-read : (n : ℕ) (c : DecoderCall) (r : Result) (m : model.Event) → IdleRead c r → ReadTold n c r m
+idle-read n (calls.DecoderCall.read s) r m f = inr f
+idle-read n (calls.DecoderCall.block stream part s out) r m f = inr f
+idle-read n (calls.DecoderCall.close k stream) r m f = tt
+idle-read n (calls.DecoderCall.collect out) r m f = tt
+idle-read n (calls.DecoderCall.hold index) r m f = tt
+
 idle-told : (e : Event) (m : model.Event) → Idle e → ByteTold e m
-idle-told (Event.wrote c r) m f = idle-write c r m f
-idle-told (Event.heard s r) m f = inr f
-idle-told (Event.offered n stream part s out r) m f = inr f
-idle-told (Event.told stream r) m f = tt
-idle-told (Event.collected out r) m f = tt
-idle-told (Event.enquired index r) m f = tt
+idle-told (Event.byEncoder c r) m f = idle-write c r m f
+idle-told (Event.byDecoder n c r) m f = idle-read n c r m f
 idle-told (Event.reset stream) m f = absurd f
 
 pub byte-told : (st : Step) → ByteTold (byteOf st) (modelOf st)
 byte-told (said c r i f) = said-told c r (model.said i) (f .speaks)
 byte-told (wrote stream part s out r fs rs f) = tt
 byte-told (acknowledged s r i f) = inl (i, f, refl)
-byte-told (heard s r i f) = inl (i, f, refl)
+byte-told (heard n s r i f) = inl (i, f, refl)
 byte-told (offered n stream part s out r rs o f) = inl (record { says = rs; output = o; tied = f; is = refl })
-byte-told (freed out r i f e) = tt
-byte-told (told stream r z) = tt
+byte-told (freed n out r i f e) = tt
+byte-told (told n k stream r z) = tt
 byte-told (reset stream) = refl
 byte-told (quiet e q) = idle-told e model.quiet (q .idle)
 
 -- ---- from the model's event to that on bytes, e
-pub record HeardStep (i : Instruction) (n : ℕ) (e : Event) : Type 0 where
+pub record HeardStep (i : Instruction) (number : ℕ) (e : Event) : Type 0 where
+  pub which : ℕ
   pub given : List ℕ
   pub result : Result
   pub tied : ReadAs readForDecoder given result i
-  pub is : e ≡ Event.heard given result
+  pub is : e ≡ Event.byDecoder which (calls.DecoderCall.read given) result
 
 pub record AcknowledgedStep (i n : ℕ) (e : Event) : Type 0 where
   pub given : List ℕ
   pub result : Result
   pub tied : ReadAs readForEncoder given result (acknowledge i)
-  pub is : e ≡ Event.wrote (calls.EncoderCall.acknowledge given) result
+  pub is : e ≡ Event.byEncoder (calls.EncoderCall.acknowledge given) result
 
 pub record OfferedStep (n stream part : ℕ) (rs : List Representation) (room : ℕ) (a : Answer) (e : Event) : Type 0 where
   pub given : List ℕ
@@ -210,7 +220,7 @@ pub record OfferedStep (n stream part : ℕ) (rs : List Representation) (room : 
   pub reads : readBlock given ≡ block rs
   pub room-is : length lent ≡ room
   pub answer-is : result .answer ≡ a
-  pub is : e ≡ Event.offered n stream part given lent result
+  pub is : e ≡ Event.byDecoder n (calls.DecoderCall.block stream part given lent) result
 
 abbrev pub ModelTold : model.Event → Event → Type 0
 ModelTold (model.said i) e = Unit {0}
@@ -219,7 +229,7 @@ ModelTold (model.acknowledged i n) e = AcknowledgedStep i n e
 ModelTold (model.heard i n) e = HeardStep i n e
 ModelTold (model.offered n s part rs room a o) e = OfferedStep n s part rs room a e
 ModelTold (model.freed i) e = Unit {0}
-ModelTold (model.told s) e = (r : Result) × (r .answer .number ≡ 0) × (e ≡ Event.told s r)
+ModelTold (model.told k s) e = (n : ℕ) × (r : Result) × (r .answer .number ≡ 0) × (e ≡ Event.byDecoder n (calls.DecoderCall.close k s) r)
 ModelTold (model.Event.reset s) e = e ≡ Event.reset s
 ModelTold model.quiet e = Unit {0}
 
@@ -227,10 +237,10 @@ pub model-told : (st : Step) → ModelTold (modelOf st) (byteOf st)
 model-told (said c r i f) = tt
 model-told (wrote stream part s out r fs rs f) = tt
 model-told (acknowledged s r i f) = record { given = s; result = r; tied = f; is = refl }
-model-told (heard s r i f) = record { given = s; result = r; tied = f; is = refl }
+model-told (heard n s r i f) = record { which = n; given = s; result = r; tied = f; is = refl }
 model-told (offered n stream part s out r rs o f) =
     record { given = s; lent = out; result = r; reads = f .reads; room-is = refl; answer-is = refl; is = refl }
-model-told (freed out r i f e) = tt
-model-told (told stream r z) = (r, z, refl)
+model-told (freed n out r i f e) = tt
+model-told (told n k stream r z) = (n, r, z, refl)
 model-told (reset stream) = refl
 model-told (quiet e q) = tt

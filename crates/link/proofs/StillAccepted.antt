@@ -60,7 +60,7 @@ block-done D s p b rs out read = go (partTurn (D .finished) s (partOf (partNumbe
     go false e = absurd (omega (arith, e))
 
 pub still-model : (m : List ℕ) (D : Decoder) → StandsDecoder m D → (s : ℕ) (p : Part) (b : List ℕ) (rs : List Representation) → readBlock b ≡ block rs
-    → CouldStill m s p b → model.CouldStill D s p rs
+    → CouldStill m s p b → model.AbstractCouldStill D s p rs
 still-model m D h s p b rs read c =
     let E = afterDecoder D (decoderCallsOf D (c .first)) in
     let call = calls.DecoderCall.block s (partNumber p) b (c .output) in

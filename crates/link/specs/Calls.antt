@@ -2,7 +2,11 @@
 use Prim.Native.Nat.{ℕ}
 use mathlib.Core.Bool.{Bool}
 use mathlib.Core.List.{List, [], _∷_}
+use lib.ListN.{take}
+use lib.Dec.{eqb}
+use Rattle.memory.specs.Choice.{pick}
 use Rattle.memory.specs.Bytes.{Small}
+use Rattle.model.specs.Parts.{Closing, ended}
 use Rattle.state.specs.Layout.{decoderLength, encoderLength}
 use Rattle.state.specs.Forms.{formsDecoder, formsEncoder}
 use Rattle.reply.specs.Result.{Result}
@@ -15,14 +19,18 @@ use Rattle.encoder.specs.Calls as encoder
 pub data DecoderCall : Type 0 where
   read : List ℕ → DecoderCall
   block : ℕ → ℕ → List ℕ → List ℕ → DecoderCall
-  ended : ℕ → DecoderCall
+  close : Closing → ℕ → DecoderCall
   collect : List ℕ → DecoderCall
   hold : ℕ → DecoderCall
+
+-- parts of a stream closed by the host
+abbrev pub closeCall : List ℕ → Closing → ℕ → Result
+closeCall m ended stream = endedCall m stream
 
 unfoldable pub decoderResult : List ℕ → DecoderCall → Result
 decoderResult m (read s) = readCall m s
 decoderResult m (block stream part s out) = decoder.blockCall m stream part s out
-decoderResult m (ended stream) = endedCall m stream
+decoderResult m (close k stream) = closeCall m k stream
 decoderResult m (collect out) = collectCall m out
 decoderResult m (hold index) = holdCall m index
 
@@ -56,7 +64,7 @@ resultOf m (atEncoder c) = encoderResult m c
 abbrev pub decoderLent : DecoderCall → List ℕ
 decoderLent (read s) = []
 decoderLent (block stream part s out) = out
-decoderLent (ended stream) = []
+decoderLent (close k stream) = []
 decoderLent (collect out) = out
 decoderLent (hold index) = []
 
@@ -76,7 +84,7 @@ lent (atEncoder c) = encoderLent c
 abbrev pub DecoderBytes : DecoderCall → Type 0
 DecoderBytes (read s) = Small s
 DecoderBytes (block stream part s out) = Small s × Small out
-DecoderBytes (ended stream) = Unit {0}
+DecoderBytes (close k stream) = Unit {0}
 DecoderBytes (collect out) = Small out
 DecoderBytes (hold index) = Unit {0}
 
@@ -121,3 +129,13 @@ decoderAfter m (c ∷ cs) = decoderAfter (decoderResult m c .memory) cs
 unfoldable pub encoderAfter : List ℕ → List EncoderCall → List ℕ
 encoderAfter m [] = m
 encoderAfter m (c ∷ cs) = encoderAfter (encoderResult m c .memory) cs
+
+-- ---- what a result says
+
+-- the bytes that a call answered "done" wrote: its told count, from the front of the output
+abbrev pub doneBytes : Result → List ℕ
+doneBytes r = pick (eqb (r .answer .number) 0) (take (r .answer .first) (r .output)) []
+
+-- "Bytes are read when a call answered "done" took them."
+abbrev pub doneCount : Result → ℕ
+doneCount r = pick (eqb (r .answer .number) 0) (r .answer .first) 0

@@ -1,4 +1,7 @@
--- The claims over whole lists of calls. Claims is the file to read; Checks has document 01's ten bytes to check against.
+-- The claims over whole lists of calls. Claims is the file to read, with Calls and Happened before it.
 pub mod Calls
+pub mod Happened
+pub mod Answers
 pub mod Checks
+pub mod Histories
 pub mod Claims

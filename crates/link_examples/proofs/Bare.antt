@@ -8,26 +8,24 @@ use lib.ListN.{length, take, drop}
 use lib.Dec.{eqb}
 use Rattle.memory.specs.Choice.{pick}
 use Rattle.integers.specs.Answers.{Answer}
-use Rattle.model.proofs.RulesCheck.{any}
+use Rattle.model.specs.Parts.{ended}
 use Rattle.reply.specs.Result.{Result}
+use Rattle.link.specs.Calls.{DecoderCall, EncoderCall, doneBytes}
 use Rattle.link.specs.Calls as calls
-use Rattle.link.specs.Claims.{LinkCall, read, offer, ended, collect, hold, Event, wrote, heard, offered, told, collected, enquired, doneBytes}
+use Rattle.link.specs.Claims.{LinkCall, Event, byEncoder, byDecoder, readBy}
 use Rattle.link.specs.Claims.{managementOf, managementIn, readOf, readIn, acknowledgementOf, acknowledgementsIn, acknowledgedOf, acknowledgedIn}
 use Rattle.link.specs.Claims.{Written, writtenOf, writtenFrom, writtenIn}
 use Rattle.link_examples.specs.Examples.{Shown, call, shown}
-use Rattle.link_examples.proofs.RulesCheck.{isDone, isReset, Past, past, keepsEvent, keepsFrom, keeps}
+use Rattle.link_examples.proofs.ListTests.{any}
+use Rattle.link_examples.proofs.RulesCheck.{isAccepted, isDone, isReset, Past, past, keepsEvent, keepsFrom, keeps}
 
 -- ---- an event from what is shown of it: with no memory, and with no more output than was written
 abbrev bareResult : Answer → List ℕ → Result
 bareResult a b = record { answer = a; memory = []; output = b }
 
 abbrev bareCall : LinkCall → Result → Event
-bareCall (LinkCall.atEncoder c) r = wrote c r
-bareCall (read s) r = heard s r
-bareCall (offer n stream part s out) r = offered n stream part s out r
-bareCall (ended stream) r = told stream r
-bareCall (collect out) r = collected out r
-bareCall (hold index) r = enquired index r
+bareCall (LinkCall.atEncoder c) r = byEncoder c r
+bareCall (LinkCall.atDecoder n c) r = byDecoder n c r
 bareCall (LinkCall.reset stream) r = Event.reset stream
 
 abbrev pub bare : Shown → Event
@@ -91,28 +89,47 @@ abbrev again : Event → Event
 again e = bare (shown e)
 
 -- it says the same, and passes where the other does
+alike-write : (c : EncoderCall) (r : Result) → says (again (byEncoder c r)) ≡ says (byEncoder c r)
+alike-write (calls.EncoderCall.insert name value out) r = ap (λ (b : List ℕ). only b [] (λ k. [])) (done-again r)
+alike-write (calls.EncoderCall.delete index out) r = ap (λ (b : List ℕ). only b [] (λ k. [])) (done-again r)
+alike-write (calls.EncoderCall.block stream part s out) r = ap (λ (b : List ℕ). only [] [] (blockAt stream part s r b)) (done-again r)
+alike-write (calls.EncoderCall.acknowledge s) r = refl
+
+-- an event at the decoder: bytes read, an acknowledgement, a block answered "done"
+abbrev onlyRead : ℕ → DecoderCall → Result → List ℕ → Says
+onlyRead n c r acknowledgement = record {
+  management = [];
+  read = readBy c r;
+  acknowledgement = acknowledgement;
+  acknowledged = 0;
+  written = λ k. [];
+  done = λ m. eqb n m && isAccepted c r;
+  reset = λ t. false;
+}
+
+alike-read : (n : ℕ) (c : DecoderCall) (r : Result) → says (again (byDecoder n c r)) ≡ says (byDecoder n c r)
+alike-read n (calls.DecoderCall.read s) r = refl
+alike-read n (calls.DecoderCall.block stream part s out) r = refl
+alike-read n (calls.DecoderCall.close k stream) r = refl
+alike-read n (calls.DecoderCall.collect out) r = ap (onlyRead n (calls.DecoderCall.collect out) r) (done-again r)
+alike-read n (calls.DecoderCall.hold index) r = refl
+
 alike : (e : Event) → says (again e) ≡ says e
-alike (wrote (calls.EncoderCall.insert name value out) r) = ap (λ (b : List ℕ). only b [] (λ k. [])) (done-again r)
-alike (wrote (calls.EncoderCall.delete index out) r) = ap (λ (b : List ℕ). only b [] (λ k. [])) (done-again r)
-alike (wrote (calls.EncoderCall.block stream part s out) r) = ap (λ (b : List ℕ). only [] [] (blockAt stream part s r b)) (done-again r)
-alike (wrote (calls.EncoderCall.acknowledge s) r) = refl
-alike (heard s r) = refl
-alike (offered n stream part s out r) = refl
-alike (told stream r) = refl
-alike (collected out r) = ap (λ (b : List ℕ). only [] b (λ k. [])) (done-again r)
-alike (enquired index r) = refl
+alike (byEncoder c r) = alike-write c r
+alike (byDecoder n c r) = alike-read n c r
 alike (Event.reset stream) = refl
 
+same-read-event : (ever : List Written) (P : Past) (n : ℕ) (c : DecoderCall) (r : Result)
+    → keepsEvent ever P (again (byDecoder n c r)) ≡ keepsEvent ever P (byDecoder n c r)
+same-read-event ever P n (calls.DecoderCall.read s) r = refl
+same-read-event ever P n (calls.DecoderCall.block stream part s out) r = refl
+same-read-event ever P n (calls.DecoderCall.close ended stream) r = refl
+same-read-event ever P n (calls.DecoderCall.collect out) r = refl
+same-read-event ever P n (calls.DecoderCall.hold index) r = refl
+
 same-event : (ever : List Written) (P : Past) (e : Event) → keepsEvent ever P (again e) ≡ keepsEvent ever P e
-same-event ever P (wrote (calls.EncoderCall.insert name value out) r) = refl
-same-event ever P (wrote (calls.EncoderCall.delete index out) r) = refl
-same-event ever P (wrote (calls.EncoderCall.block stream part s out) r) = refl
-same-event ever P (wrote (calls.EncoderCall.acknowledge s) r) = refl
-same-event ever P (heard s r) = refl
-same-event ever P (offered n stream part s out r) = refl
-same-event ever P (told stream r) = refl
-same-event ever P (collected out r) = refl
-same-event ever P (enquired index r) = refl
+same-event ever P (byEncoder c r) = refl
+same-event ever P (byDecoder n c r) = same-read-event ever P n c r
 same-event ever P (Event.reset stream) = refl
 
 -- ---- lists of events

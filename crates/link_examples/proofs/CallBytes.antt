@@ -1,21 +1,12 @@
 -- That all that is given and lent is bytes, as a test that computes.
 use mathlib.Core.Path.{_≡_}
-use Prim.Native.Nat.{ℕ}
-use native.Mathlib.Omega.{arith}
 use mathlib.Core.Bool.{Bool, true, _&&_}
 use mathlib.Core.List.{List, [], _∷_}
-use lib.Dec.{ltb}
-use borrow.Author.Tests.{ltb-true}
-use Rattle.memory.specs.Bytes.{Small}
-use Rattle.memory.proofs.Overlay.{small-cons}
 use Rattle.model.proofs.Marks.{and-both}
 use Rattle.link.specs.Calls.{EncoderCall, insert, delete, acknowledge, EncoderBytes}
 use Rattle.link.specs.Calls as calls
-use Rattle.link.specs.Claims.{LinkCall, read, offer, ended, collect, hold, LinkBytes, AllLinkBytes}
-
-abbrev areBytes : List ℕ → Bool
-areBytes [] = true
-areBytes (x ∷ l) = ltb x 256 && areBytes l
+use Rattle.link.specs.Claims.{LinkCall, LinkBytes, AllLinkBytes}
+use Rattle.link.proofs.CallTests.{areBytes, decoderGiven, small-given, decoder-given}
 
 abbrev encoderGiven : EncoderCall → Bool
 encoderGiven (insert name value out) = areBytes name && areBytes value && areBytes out
@@ -25,11 +16,7 @@ encoderGiven (acknowledge s) = areBytes s
 
 abbrev given : LinkCall → Bool
 given (LinkCall.atEncoder c) = encoderGiven c
-given (read s) = areBytes s
-given (offer n stream part s out) = areBytes s && areBytes out
-given (ended stream) = true
-given (collect out) = areBytes out
-given (hold index) = true
+given (LinkCall.atDecoder n c) = decoderGiven c
 given (LinkCall.reset stream) = true
 
 unfoldable pub allGiven : List LinkCall → Bool
@@ -37,29 +24,19 @@ allGiven [] = true
 allGiven (c ∷ cs) = given c && allGiven cs
 
 -- ---- what the tests say
-small : (l : List ℕ) → areBytes l ≡ true → Small l
-small [] e = λ k. omega arith
-small (x ∷ l) e = let h = and-both (ltb x 256) (areBytes l) e in small-cons x l (ltb-true x 256 (h .0)) (small l (h .1))
-
-both : (s out : List ℕ) → areBytes s && areBytes out ≡ true → Small s × Small out
-both s out e = let h = and-both (areBytes s) (areBytes out) e in (small s (h .0), small out (h .1))
-
 encoder-bytes : (c : EncoderCall) → encoderGiven c ≡ true → EncoderBytes c
 encoder-bytes (insert name value out) e =
     let h = and-both (areBytes name && areBytes value) (areBytes out) e in
-    let g = both name value (h .0) in
-    (g .0, g .1, small out (h .1))
-encoder-bytes (delete index out) e = small out e
-encoder-bytes (calls.EncoderCall.block stream part s out) e = both s out e
-encoder-bytes (acknowledge s) e = small s e
+    let g = and-both (areBytes name) (areBytes value) (h .0) in
+    (small-given name (g .0), small-given value (g .1), small-given out (h .1))
+encoder-bytes (delete index out) e = small-given out e
+encoder-bytes (calls.EncoderCall.block stream part s out) e =
+    let h = and-both (areBytes s) (areBytes out) e in (small-given s (h .0), small-given out (h .1))
+encoder-bytes (acknowledge s) e = small-given s e
 
 link-bytes : (c : LinkCall) → given c ≡ true → LinkBytes c
 link-bytes (LinkCall.atEncoder c) e = encoder-bytes c e
-link-bytes (read s) e = small s e
-link-bytes (offer n stream part s out) e = both s out e
-link-bytes (ended stream) e = tt
-link-bytes (collect out) e = small out e
-link-bytes (hold index) e = tt
+link-bytes (LinkCall.atDecoder n c) e = decoder-given c e
 link-bytes (LinkCall.reset stream) e = tt
 
 pub all-bytes : (cs : List LinkCall) → allGiven cs ≡ true → AllLinkBytes cs

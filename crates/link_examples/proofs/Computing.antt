@@ -14,12 +14,12 @@ use Rattle.instructions.specs.Instruction.{instructionWire}
 use Rattle.instructions.specs.Reading.{readIndex, readInsert, readDelete, readAcknowledgement, readForDecoder, readForEncoder}
 use Rattle.blocks.specs.Representation.{representationWire, blockWire}
 use Rattle.blocks.specs.Reading.{readIndexed, readLiteral, readRepresentation, blockFrom, readBlock}
-use Rattle.blocks.specs.Meaning.{withStatics, fieldMeaning, blockMeaning, blockReferences}
+use Rattle.blocks.specs.Meaning.{isStatic, withStatics, fieldMeaning, blockMeaning, blockReferences}
 use Rattle.model.specs.Table.{size, look, put, cut, lowest, vacantFrom, total}
 use Rattle.model.specs.Parts.{partOf, mark, markBoth, inTurn, namesPart, isOpen, openBelow, lowestOpen, isReady}
 use Rattle.model.specs.Outcome.{outputBytes}
 use Rattle.model.specs.Decoder.{heldSize, slotIn, lookup, deleteOf, startDecoder, slotName, nameBytes, insertNamed, deleteEntry}
-use Rattle.model.specs.Decoder.{readInstruction, giveFields, decodePart, decodeBlock, endStream, readyDelete, ready, nextFreed, without}
+use Rattle.model.specs.Decoder.{readInstruction, giveFields, decodePart, decodeBlock, closeParts, readyDelete, ready, nextFreed, without}
 use Rattle.model.specs.Decoder.{freeEntry, collectEntry, holdOf, enquireHold}
 use Rattle.model.specs.DecoderCalls.{decoderCall}
 use Rattle.model.specs.Encoder.{sentSize, startEncoder, serves, servesBoth, dynamicName, staticName, chooseName, dynamicField, staticField}
@@ -38,10 +38,10 @@ unfolding same readInt groups intWire groupWire stringBytes stringAfter readStri
     readDelta readDeltas streamsFrom readList names listed listWire deltasWire
     entries entryAt hasName hasBoth lowest-static lowestName lowestBoth textForm fieldForm listForm readLength readText readField fieldsFrom
     instructionWire readIndex readInsert readDelete readAcknowledgement readForDecoder readForEncoder
-    representationWire blockWire readIndexed readLiteral readRepresentation blockFrom readBlock withStatics fieldMeaning blockMeaning blockReferences
+    representationWire blockWire readIndexed readLiteral readRepresentation blockFrom readBlock isStatic withStatics fieldMeaning blockMeaning blockReferences
     size look put cut lowest vacantFrom total partOf mark markBoth inTurn namesPart isOpen openBelow lowestOpen isReady outputBytes
     heldSize slotIn lookup deleteOf startDecoder slotName nameBytes insertNamed deleteEntry readInstruction giveFields decodePart decodeBlock
-    endStream readyDelete ready nextFreed without freeEntry collectEntry holdOf enquireHold decoderCall
+    closeParts readyDelete ready nextFreed without freeEntry collectEntry holdOf enquireHold decoderCall
     sentSize startEncoder serves servesBoth dynamicName staticName chooseName dynamicField staticField choose insertAt insertEntry
     deleteAt deleteFound deleteSent mentions referred refer writePart encodePart encodeBlock acknowledgeFound readAck
     encoderCall partTurn decoderCallOf encoderCallOf see seenFrom fresh

@@ -2,6 +2,7 @@
 pub mod Seen
 pub mod Computing
 -- the rules for the link on bytes, as a test that computes and sees no memory
+pub mod ListTests
 pub mod RulesCheck
 pub mod RulesSound
 pub mod Bare

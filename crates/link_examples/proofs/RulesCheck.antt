@@ -1,5 +1,5 @@
 -- The rules for the link, on bytes, as a test that computes. It walks the list of events with what the events before each one say.
--- RulesSound shows that a list that passes it keeps the rules. Tests over lists are the model's.
+-- RulesSound shows that a list that passes it keeps the rules.
 use Prim.Native.Nat.{ℕ}
 use mathlib.Core.Bool.{Bool, true, false, not, _&&_, _||_}
 use mathlib.Core.List.{List, [], _∷_, _++_}
@@ -7,10 +7,12 @@ use lib.ListN.{length, drop}
 use lib.Dec.{eqb, leb}
 use Rattle.memory.specs.Compare.{same}
 use Rattle.model.specs.Link.{at}
-use Rattle.model.proofs.RulesCheck.{any, anyAt, allAt, passes}
+use Rattle.model.specs.Parts.{Closing, ended}
+use Rattle.reply.specs.Result.{Result}
+use Rattle.link.specs.Calls.{DecoderCall, EncoderCall}
 use Rattle.link.specs.Calls as calls
-use Rattle.link.specs.Claims.{Event, wrote, heard, offered, told, collected, enquired, managementIn, readIn, acknowledgementsIn, acknowledgedIn}
-use Rattle.link.specs.Claims.{Written, writtenFrom, writtenIn}
+use Rattle.link.specs.Claims.{Event, byEncoder, byDecoder, managementIn, readIn, acknowledgementsIn, acknowledgedIn, Written, writtenFrom, writtenIn}
+use Rattle.link_examples.proofs.ListTests.{any, anyAt, allAt, passes}
 
 -- the bytes l begin with s
 abbrev pub begins : List ℕ → List ℕ → Bool
@@ -20,23 +22,23 @@ begins (x ∷ s) (y ∷ l) = eqb y x && begins s l
 
 -- ---- what the events before one say
 
+-- the call offers a block and is answered "done"
+abbrev pub isAccepted : DecoderCall → Result → Bool
+isAccepted (calls.DecoderCall.read s) r = false
+isAccepted (calls.DecoderCall.block stream part s out) r = eqb (r .answer .number) 0
+isAccepted (calls.DecoderCall.close k stream) r = false
+isAccepted (calls.DecoderCall.collect out) r = false
+isAccepted (calls.DecoderCall.hold index) r = false
+
 -- the event offers the n-th block and answers "done"
 abbrev pub isDone : ℕ → Event → Bool
-isDone n (wrote c r) = false
-isDone n (heard s r) = false
-isDone n (offered m stream part s out r) = eqb m n && eqb (r .answer .number) 0
-isDone n (told stream r) = false
-isDone n (collected out r) = false
-isDone n (enquired index r) = false
+isDone n (byEncoder c r) = false
+isDone n (byDecoder m c r) = eqb m n && isAccepted c r
 isDone n (Event.reset stream) = false
 
 abbrev pub isReset : ℕ → Event → Bool
-isReset t (wrote c r) = false
-isReset t (heard s r) = false
-isReset t (offered m stream part s out r) = false
-isReset t (told stream r) = false
-isReset t (collected out r) = false
-isReset t (enquired index r) = false
+isReset t (byEncoder c r) = false
+isReset t (byDecoder m c r) = false
 isReset t (Event.reset stream) = eqb t stream
 
 -- the unread bytes of both directions, the blocks written, those answered "done", the streams that were reset
@@ -72,18 +74,25 @@ abbrev pub otherOrAccepted : Past → ℕ → ℕ → Written → Bool
 otherOrAccepted P stream n w = not (eqb (w .stream) stream) || P .accepted n
 
 -- one event, after a past, in a list in which these blocks are ever written
-abbrev pub keepsEvent : List Written → Past → Event → Bool
-keepsEvent ever P (wrote (calls.EncoderCall.insert name value out) r) = true
-keepsEvent ever P (wrote (calls.EncoderCall.delete index out) r) = true
-keepsEvent ever P (wrote (calls.EncoderCall.block stream part s out) r) = true
-keepsEvent ever P (wrote (calls.EncoderCall.acknowledge s) r) = begins s (P .acknowledgements)
-keepsEvent ever P (heard s r) = begins s (P .management)
-keepsEvent ever P (offered n stream part s out r) =
+abbrev pub keepsWrite : Past → EncoderCall → Bool
+keepsWrite P (calls.EncoderCall.insert name value out) = true
+keepsWrite P (calls.EncoderCall.delete index out) = true
+keepsWrite P (calls.EncoderCall.block stream part s out) = true
+keepsWrite P (calls.EncoderCall.acknowledge s) = begins s (P .acknowledgements)
+
+abbrev pub keepsRead : List Written → Past → ℕ → DecoderCall → Result → Bool
+keepsRead ever P n (calls.DecoderCall.read s) r = begins s (P .management)
+keepsRead ever P n (calls.DecoderCall.block stream part s out) r =
     passes (asWritten stream part s out) (at n (P .written)) && not (P .accepted n)
     && (not (eqb part 1) || anyAt (acceptedPlain P stream) (P .written)) && not (P .reset stream)
-keepsEvent ever P (told stream r) = not (eqb (r .answer .number) 0) || (allAt (otherOrAccepted P stream) ever || P .reset stream)
-keepsEvent ever P (collected out r) = true
-keepsEvent ever P (enquired index r) = true
+keepsRead ever P n (calls.DecoderCall.close ended stream) r =
+    not (eqb (r .answer .number) 0) || (allAt (otherOrAccepted P stream) ever || P .reset stream)
+keepsRead ever P n (calls.DecoderCall.collect out) r = true
+keepsRead ever P n (calls.DecoderCall.hold index) r = true
+
+abbrev pub keepsEvent : List Written → Past → Event → Bool
+keepsEvent ever P (byEncoder c r) = keepsWrite P c
+keepsEvent ever P (byDecoder n c r) = keepsRead ever P n c r
 keepsEvent ever P (Event.reset stream) = true
 
 abbrev pub keepsFrom : List Written → List Event → List Event → Bool

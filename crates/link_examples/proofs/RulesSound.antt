@@ -12,14 +12,15 @@ use borrow.Author.Tests.{eqb-true, eq-eqb, leb-true, not-true}
 use Rattle.memory.specs.Compare.{same}
 use Rattle.memory.proofs.Order.{not-both}
 use Rattle.memory.proofs.Sameness.{same-eq}
+use Rattle.model.specs.Parts.{ended}
 use Rattle.model.specs.Link.{at}
-use Rattle.model.proofs.RulesCheck.{any, anyAt, allAt, passes}
-use Rattle.model.proofs.RulesSound.{passes-some, any-member, member-any, anyAt-place, allAt-place}
 use Rattle.model.proofs.Marks.{and-both, or-either}
 use Rattle.reply.specs.Result.{Result}
+use Rattle.link.specs.Calls.{DecoderCall}
 use Rattle.link.specs.Calls as calls
-use Rattle.link.specs.Claims.{Event, wrote, heard, offered, told, collected, enquired, Written, writtenIn, Accepted, Rules}
-use Rattle.link_examples.proofs.RulesCheck.{begins, isDone, isReset, past, asWritten, acceptedPlain, otherOrAccepted, keepsEvent, keepsFrom, keeps}
+use Rattle.link.specs.Claims.{Event, byEncoder, byDecoder, Written, writtenIn, Accepted, Rules}
+use Rattle.link_examples.proofs.ListTests.{any, anyAt, allAt, passes, passes-some, any-member, member-any, anyAt-place, allAt-place}
+use Rattle.link_examples.proofs.RulesCheck.{begins, isAccepted, isDone, isReset, past, asWritten, acceptedPlain, otherOrAccepted, keepsEvent, keepsFrom, keeps}
 
 -- ---- what the tests say
 begins-sound : (s l : List ℕ) → begins s l ≡ true → (rest : List ℕ) × (l ≡ s ++ rest)
@@ -30,16 +31,18 @@ begins-sound (x ∷ s) (y ∷ l) e =
     let r = begins-sound s l (h .1) in
     (r .0, ap₂ _∷_ (eqb-true y x (h .0)) (r .1))
 
+accepted-call : (n : ℕ) (c : DecoderCall) (r : Result) (xs : List Event) → List·Memᴰ (byDecoder n c r) xs → isAccepted c r ≡ true → Accepted n xs
+accepted-call n (calls.DecoderCall.read s) r xs m e = not-both false e refl
+accepted-call n (calls.DecoderCall.block stream part s out) r xs m e =
+    record { stream = stream; part = part; bytes = s; output = out; result = r; done = eqb-true (r .answer .number) 0 e; when = m }
+accepted-call n (calls.DecoderCall.close k stream) r xs m e = not-both false e refl
+accepted-call n (calls.DecoderCall.collect out) r xs m e = not-both false e refl
+accepted-call n (calls.DecoderCall.hold index) r xs m e = not-both false e refl
+
 done-accepted : (n : ℕ) (e : Event) (xs : List Event) → List·Memᴰ e xs → isDone n e ≡ true → Accepted n xs
-done-accepted n (wrote c r) xs m e = not-both false e refl
-done-accepted n (heard s r) xs m e = not-both false e refl
-done-accepted n (offered k stream part s out r) xs m e =
-    let h = and-both (eqb k n) (eqb (r .answer .number) 0) e in
-    subst (λ j. Accepted j xs) (eqb-true k n (h .0))
-    (record { stream = stream; part = part; bytes = s; output = out; result = r; done = eqb-true (r .answer .number) 0 (h .1); when = m })
-done-accepted n (told stream r) xs m e = not-both false e refl
-done-accepted n (collected out r) xs m e = not-both false e refl
-done-accepted n (enquired index r) xs m e = not-both false e refl
+done-accepted n (byEncoder c r) xs m e = not-both false e refl
+done-accepted n (byDecoder k c r) xs m e =
+    let h = and-both (eqb k n) (isAccepted c r) e in subst (λ j. Accepted j xs) (eqb-true k n (h .0)) (accepted-call k c r xs m (h .1))
 done-accepted n (Event.reset stream) xs m e = not-both false e refl
 
 accepted-sound : (n : ℕ) (xs : List Event) → any (isDone n) xs ≡ true → Accepted n xs
@@ -47,7 +50,7 @@ accepted-sound n xs e = let r = any-member (isDone n) xs e in done-accepted n (r
 
 accepted-complete : (n : ℕ) (xs : List Event) → Accepted n xs → any (isDone n) xs ≡ true
 accepted-complete n xs A =
-    member-any (isDone n) xs (offered n (A .stream) (A .part) (A .bytes) (A .output) (A .result)) (A .when)
+    member-any (isDone n) xs (byDecoder n (calls.DecoderCall.block (A .stream) (A .part) (A .bytes) (A .output)) (A .result)) (A .when)
     (and-true (eqb n n) (eqb (A .result .answer .number) 0) (eq-eqb n n refl) (eq-eqb (A .result .answer .number) 0 (A .done)))
   where
     and-true : (a b : Bool) → a ≡ true → b ≡ true → a && b ≡ true
@@ -55,12 +58,8 @@ accepted-complete n xs A =
     and-true false b d e = not-both false d refl
 
 reset-member : (t : ℕ) (e : Event) (xs : List Event) → List·Memᴰ e xs → isReset t e ≡ true → List·Memᴰ (Event.reset t) xs
-reset-member t (wrote c r) xs m e = not-both false e refl
-reset-member t (heard s r) xs m e = not-both false e refl
-reset-member t (offered k stream part s out r) xs m e = not-both false e refl
-reset-member t (told stream r) xs m e = not-both false e refl
-reset-member t (collected out r) xs m e = not-both false e refl
-reset-member t (enquired index r) xs m e = not-both false e refl
+reset-member t (byEncoder c r) xs m e = not-both false e refl
+reset-member t (byDecoder n c r) xs m e = not-both false e refl
 reset-member t (Event.reset stream) xs m e = subst (λ j. List·Memᴰ (Event.reset j) xs) (sym (eqb-true t stream e)) m
 
 reset-sound : (t : ℕ) (xs : List Event) → any (isReset t) xs ≡ true → List·Memᴰ (Event.reset t) xs
@@ -83,7 +82,7 @@ module _ (es : List Event) (k : keeps es ≡ true) where
   unfolding keeps
   at-event xs ys e p = event-keeps (writtenIn es) [] xs ys e (subst (λ (l : List Event). keepsFrom (writtenIn es) [] l ≡ true) p k)
 
-  module _ (xs ys : List Event) (n stream part : ℕ) (s out : List ℕ) (r : Result) (p : es ≡ xs ++ (offered n stream part s out r ∷ ys)) where
+  module _ (xs ys : List Event) (n stream part : ℕ) (s out : List ℕ) (r : Result) (p : es ≡ xs ++ (byDecoder n (calls.DecoderCall.block stream part s out) r ∷ ys)) where
     -- what the test says of an offered block
     offer-keeps : (passes (asWritten stream part s out) (at n (writtenIn xs)) ≡ true) × (not (any (isDone n) xs) ≡ true)
         × (not (eqb part 1) || anyAt (acceptedPlain (past xs) stream) (writtenIn xs) ≡ true) × (not (any (isReset stream) xs) ≡ true)
@@ -92,7 +91,7 @@ module _ (es : List Event) (k : keeps es ≡ true) where
         let W = passes (asWritten stream part s out) (at n (writtenIn xs)) in
         let N = not (any (isDone n) xs) in
         let T = not (eqb part 1) || anyAt (acceptedPlain (past xs) stream) (writtenIn xs) in
-        let h = and-both (W && N && T) (not (any (isReset stream) xs)) (at-event xs ys (offered n stream part s out r) p) in
+        let h = and-both (W && N && T) (not (any (isReset stream) xs)) (at-event xs ys (byDecoder n (calls.DecoderCall.block stream part s out) r) p) in
         let g = and-both (W && N) T (h .0) in
         let f = and-both W N (g .0) in
         (f .0, f .1, g .1, h .1)
@@ -122,7 +121,7 @@ module _ (es : List Event) (k : keeps es ≡ true) where
     resets : List·Memᴰ (Event.reset stream) xs → ⊥
     resets m = not-both (any (isReset stream) xs) (reset-complete stream xs m) (not-true (any (isReset stream) xs) (offer-keeps .3))
 
-  trailers : (xs ys : List Event) (n stream : ℕ) (s out : List ℕ) (r : Result) → es ≡ xs ++ (offered n stream 1 s out r ∷ ys)
+  trailers : (xs ys : List Event) (n stream : ℕ) (s out : List ℕ) (r : Result) → es ≡ xs ++ (byDecoder n (calls.DecoderCall.block stream 1 s out) r ∷ ys)
       → (j : ℕ) × (w : Written) × (at j (writtenIn xs) ≡ some w) × (w .stream ≡ stream) × (w .part ≡ 0) × Accepted j xs
   unfolding past
   trailers xs ys n stream s out r p =
@@ -133,13 +132,13 @@ module _ (es : List Event) (k : keeps es ≡ true) where
       let g = and-both (eqb (w .stream) stream) (eqb (w .part) 0) (h .0) in
       (j, w, q .2, eqb-true (w .stream) stream (g .0), eqb-true (w .part) 0 (g .1), accepted-sound j xs (h .1))
 
-  ends : (xs ys : List Event) (stream : ℕ) (r : Result) → es ≡ xs ++ (told stream r ∷ ys) → r .answer .number ≡ 0
+  ends : (xs ys : List Event) (n stream : ℕ) (r : Result) → es ≡ xs ++ (byDecoder n (calls.DecoderCall.close ended stream) r ∷ ys) → r .answer .number ≡ 0
       → ((n : ℕ) (w : Written) → at n (writtenIn es) ≡ some w → w .stream ≡ stream → Accepted n xs) ⊎ List·Memᴰ (Event.reset stream) xs
   unfolding past
-  ends xs ys stream r p z =
+  ends xs ys m stream r p z =
       ⊎-elim (λ t. not-both (eqb (r .answer .number) 0) (eq-eqb (r .answer .number) 0 z) (not-true (eqb (r .answer .number) 0) t)) all-or-reset
       (or-either (not (eqb (r .answer .number) 0)) (allAt (otherOrAccepted (past xs) stream) (writtenIn es) || any (isReset stream) xs)
-      (at-event xs ys (told stream r) p))
+      (at-event xs ys (byDecoder m (calls.DecoderCall.close ended stream) r) p))
     where
       each : (n : ℕ) (w : Written) → w .stream ≡ stream → otherOrAccepted (past xs) stream n w ≡ true → Accepted n xs
       each n w e t =
@@ -157,9 +156,9 @@ module _ (es : List Event) (k : keeps es ≡ true) where
 pub keeps-sound : (es : List Event) → keeps es ≡ true → Rules es
 unfolding past
 keeps-sound es k = record {
-  management = λ xs ys s r p. begins-sound s (past xs .management) (at-event es k xs ys (heard s r) p);
+  management = λ xs ys n s r p. begins-sound s (past xs .management) (at-event es k xs ys (byDecoder n (calls.DecoderCall.read s) r) p);
   acknowledgements = λ xs ys s r p.
-      begins-sound s (past xs .acknowledgements) (at-event es k xs ys (wrote (calls.EncoderCall.acknowledge s) r) p);
+      begins-sound s (past xs .acknowledgements) (at-event es k xs ys (byEncoder (calls.EncoderCall.acknowledge s) r) p);
   unchanged = unchanged es k;
   once = once es k;
   trailers = trailers es k;

@@ -13,9 +13,8 @@ use Rattle.model.specs.DecoderCalls.{decoderCall}
 use Rattle.model.specs.EncoderCalls.{encoderCall}
 use Rattle.model.specs.Events as model
 use Rattle.reply.specs.Result.{Result}
-use Rattle.link.specs.Calls.{DecoderCall, decoderResult, decoderLent, DecoderBytes, EncoderCall, encoderResult, encoderLent, EncoderBytes}
-use Rattle.link.specs.Calls as calls
-use Rattle.link.specs.Claims.{LinkCall, read, offer, ended, collect, hold, Ends, doneBytes, turn, events, LinkBytes, AllLinkBytes}
+use Rattle.link.specs.Calls.{decoderResult, decoderLent, encoderResult, encoderLent, doneBytes}
+use Rattle.link.specs.Claims.{LinkCall, Ends, turn, events, LinkBytes, AllLinkBytes}
 use Rattle.link.proofs.Lifted.{decoderCallOf, encoderCallOf}
 use Rattle.link.proofs.DecoderLifting.{lift-decoder}
 use Rattle.link.proofs.EncoderLifting.{lift-encoder}
@@ -36,23 +35,13 @@ pub record Seen : Type 0 where
   pub ends : model.Ends
   pub shows : Shown
 
-abbrev pub atEncoder : model.Ends → LinkCall → EncoderCall → Seen
-atEncoder M k c =
-    let o = encoderCall (M .encoder) (encoderCallOf (M .encoder) c) in
-    record { ends = record { encoder = o .state; decoder = M .decoder }; shows = seen k (encoderLent c) o }
-
-abbrev pub atDecoder : model.Ends → LinkCall → DecoderCall → Seen
-atDecoder M k c =
-    let o = decoderCall (M .decoder) (decoderCallOf (M .decoder) c) in
-    record { ends = record { encoder = M .encoder; decoder = o .state }; shows = seen k (decoderLent c) o }
-
 unfoldable pub see : model.Ends → LinkCall → Seen
-see M (LinkCall.atEncoder c) = atEncoder M (LinkCall.atEncoder c) c
-see M (read s) = atDecoder M (read s) (calls.DecoderCall.read s)
-see M (offer n stream part s out) = atDecoder M (offer n stream part s out) (calls.DecoderCall.block stream part s out)
-see M (ended stream) = atDecoder M (ended stream) (calls.DecoderCall.ended stream)
-see M (collect out) = atDecoder M (collect out) (calls.DecoderCall.collect out)
-see M (hold index) = atDecoder M (hold index) (calls.DecoderCall.hold index)
+see M (LinkCall.atEncoder c) =
+    let o = encoderCall (M .encoder) (encoderCallOf (M .encoder) c) in
+    record { ends = record { encoder = o .state; decoder = M .decoder }; shows = seen (LinkCall.atEncoder c) (encoderLent c) o }
+see M (LinkCall.atDecoder n c) =
+    let o = decoderCall (M .decoder) (decoderCallOf (M .decoder) c) in
+    record { ends = record { encoder = M .encoder; decoder = o .state }; shows = seen (LinkCall.atDecoder n c) (decoderLent c) o }
 see M (LinkCall.reset stream) = record { ends = M; shows = Shown.reset stream }
 
 unfoldable pub seenFrom : model.Ends → List LinkCall → List Shown
@@ -70,33 +59,22 @@ pub record Shows (S : Ends) (M : model.Ends) (c : LinkCall) : Type 0 where
   pub joined : Joined (turn S c .ends) (see M c .ends)
 
 module _ (S : Ends) (M : model.Ends) (J : Joined S M) where
-  at-encoder : (k : LinkCall) (c : EncoderCall) → EncoderBytes c
-      → (call k (encoderResult (S .encoder) c .answer) (doneBytes (encoderResult (S .encoder) c)) ≡ atEncoder M k c .shows)
-      × Joined (record { encoder = encoderResult (S .encoder) c .memory; decoder = S .decoder }) (atEncoder M k c .ends)
-  at-encoder k c b =
-      let l = lift-encoder (S .encoder) (M .encoder) (J .encoder-stands) c b in (
-        shown-alike k (encoderResult (S .encoder) c) (encoderLent c) (encoderCall (M .encoder) (encoderCallOf (M .encoder) c)) (l .answer) (l .output),
-        record { encoder-stands = l .stands; decoder-stands = J .decoder-stands },
-      )
-
-  at-decoder : (k : LinkCall) (c : DecoderCall) → DecoderBytes c
-      → (call k (decoderResult (S .decoder) c .answer) (doneBytes (decoderResult (S .decoder) c)) ≡ atDecoder M k c .shows)
-      × Joined (record { encoder = S .encoder; decoder = decoderResult (S .decoder) c .memory }) (atDecoder M k c .ends)
-  at-decoder k c b =
-      let l = lift-decoder (S .decoder) (M .decoder) (J .decoder-stands) c b in (
-        shown-alike k (decoderResult (S .decoder) c) (decoderLent c) (decoderCall (M .decoder) (decoderCallOf (M .decoder) c)) (l .answer) (l .output),
-        record { encoder-stands = J .encoder-stands; decoder-stands = l .stands },
-      )
-
   shows : (c : LinkCall) → LinkBytes c → Shows S M c
   unfolding turn see
-  shows (LinkCall.atEncoder c) b = let h = at-encoder (LinkCall.atEncoder c) c b in record { alike = h .0; joined = h .1 }
-  shows (read s) b = let h = at-decoder (read s) (calls.DecoderCall.read s) b in record { alike = h .0; joined = h .1 }
-  shows (offer n stream part s out) b =
-      let h = at-decoder (offer n stream part s out) (calls.DecoderCall.block stream part s out) b in record { alike = h .0; joined = h .1 }
-  shows (ended stream) b = let h = at-decoder (ended stream) (calls.DecoderCall.ended stream) b in record { alike = h .0; joined = h .1 }
-  shows (collect out) b = let h = at-decoder (collect out) (calls.DecoderCall.collect out) b in record { alike = h .0; joined = h .1 }
-  shows (hold index) b = let h = at-decoder (hold index) (calls.DecoderCall.hold index) b in record { alike = h .0; joined = h .1 }
+  shows (LinkCall.atEncoder c) b =
+      let l = lift-encoder (S .encoder) (M .encoder) (J .encoder-stands) c b in
+      record {
+        alike = shown-alike (LinkCall.atEncoder c) (encoderResult (S .encoder) c) (encoderLent c)
+            (encoderCall (M .encoder) (encoderCallOf (M .encoder) c)) (l .answer) (l .output);
+        joined = record { encoder-stands = l .stands; decoder-stands = J .decoder-stands };
+      }
+  shows (LinkCall.atDecoder n c) b =
+      let l = lift-decoder (S .decoder) (M .decoder) (J .decoder-stands) c b in
+      record {
+        alike = shown-alike (LinkCall.atDecoder n c) (decoderResult (S .decoder) c) (decoderLent c)
+            (decoderCall (M .decoder) (decoderCallOf (M .decoder) c)) (l .answer) (l .output);
+        joined = record { encoder-stands = J .encoder-stands; decoder-stands = l .stands };
+      }
   shows (LinkCall.reset stream) b = record { alike = refl; joined = J }
 
 pub shown-seen : (S : Ends) (M : model.Ends) → Joined S M → (cs : List LinkCall) → AllLinkBytes cs → map shown (events S cs) ≡ seenFrom M cs

@@ -7,9 +7,9 @@ use mathlib.Core.List.{List, [], _∷_, _++_, map}
 use lib.ListN.{length, take, replicate}
 use Rattle.integers.specs.Answers.{Answer, done, refusal, waits, truncated}
 use Rattle.statics.specs.Ascii.{bytes}
-use Rattle.link.specs.Calls.{EncoderCall, insert, delete, acknowledge}
-use Rattle.link.specs.Claims.{LinkCall, atEncoder, read, offer, ended, collect, hold, Ends}
-use Rattle.link.specs.Claims.{Event, wrote, heard, offered, told, collected, enquired, doneBytes, events, Rules, Served, Started}
+use Rattle.model.specs.Parts.{Closing}
+use Rattle.link.specs.Calls.{DecoderCall, close, EncoderCall, insert, delete, acknowledge, doneBytes}
+use Rattle.link.specs.Claims.{LinkCall, atEncoder, atDecoder, Ends, Event, byEncoder, byDecoder, events, Rules, Served, Opening, Started}
 
 -- ---- what a host sees of a call: the call, the answer with its told numbers, and the bytes written. A reset calls neither end.
 -- The first number told is how many bytes were read or written; an insert also tells its index. An enquiry tells how many parts hold the entry,
@@ -19,13 +19,25 @@ pub data Shown : Type 0 where
   reset : ℕ → Shown
 
 abbrev pub shown : Event → Shown
-shown (wrote c r) = call (atEncoder c) (r .answer) (doneBytes r)
-shown (heard s r) = call (read s) (r .answer) (doneBytes r)
-shown (offered n stream part s out r) = call (offer n stream part s out) (r .answer) (doneBytes r)
-shown (told stream r) = call (ended stream) (r .answer) (doneBytes r)
-shown (collected out r) = call (collect out) (r .answer) (doneBytes r)
-shown (enquired index r) = call (hold index) (r .answer) (doneBytes r)
+shown (byEncoder c r) = call (atEncoder c) (r .answer) (doneBytes r)
+shown (byDecoder n c r) = call (atDecoder n c) (r .answer) (doneBytes r)
 shown (Event.reset stream) = reset stream
+
+-- the decoder's calls, as the tables write them: only an offered block says which it is of those written
+abbrev pub read : List ℕ → LinkCall
+read s = atDecoder 0 (DecoderCall.read s)
+
+abbrev pub offer : ℕ → ℕ → ℕ → List ℕ → List ℕ → LinkCall
+offer n stream part s out = atDecoder n (DecoderCall.block stream part s out)
+
+abbrev pub ended : ℕ → LinkCall
+ended stream = atDecoder 0 (close Closing.ended stream)
+
+abbrev pub collect : List ℕ → LinkCall
+collect out = atDecoder 0 (DecoderCall.collect out)
+
+abbrev pub hold : ℕ → LinkCall
+hold index = atDecoder 0 (DecoderCall.hold index)
 
 -- the calls of a table
 abbrev pub callOf : Shown → LinkCall
@@ -169,8 +181,11 @@ accident =
     []
 
 -- ==== the claim, for tables of the largest limit
+abbrev pub largest : Opening
+largest = record { encoder-limit = 4096; decoder-limit = 4096 }
+
 pub record ExamplesClaim : Type 0 where
-  pub life-of-62 : (S : Ends) → Started 4096 4096 S → Example life S
-  pub late-report : (S : Ends) → Started 4096 4096 S → Example accident S
+  pub life-of-62 : (S : Ends) → Started largest S → Example life S
+  pub late-report : (S : Ends) → Started largest S → Example accident S
   -- there is such memory
-  pub some-start : (S : Ends) × Started 4096 4096 S
+  pub some-start : (S : Ends) × Started largest S

@@ -12,7 +12,7 @@ use Rattle.instructions.specs.Instruction.{insert, delete}
 use Rattle.blocks.specs.Representation.{Representation, indexed, literal}
 use Rattle.model.specs.Outcome.{nothing, instruction, fields}
 use Rattle.model.specs.Outcome as outcome
-use Rattle.model.specs.DecoderCalls.{read, block, ended, collect, hold}
+use Rattle.model.specs.DecoderCalls.{read, block, collect, hold}
 use Rattle.model.specs.Encoder.{emptyList}
 use Rattle.model.specs.EncoderCalls as at-encoder
 use Rattle.model.proofs.AcceptanceCalls.{
@@ -28,6 +28,7 @@ use Rattle.model.proofs.AcceptanceCalls.{
   delete-trailer,
   past,
   past-trailer,
+  ended,
   refers-62,
   put-h9,
   delete-62,
@@ -78,6 +79,17 @@ pub both-given :
     (decoderAnswers 68 (insert-h9 62 ∷ block 0 0 BE-82 64 ∷ []) ≡ done 6 0 ∷ done 18 0 ∷ [])
 unfolding decoderOutputs decoderAnswers
 both-given = (refl, refl)
+
+-- an insert is stored whole: a block that names it gives its name and value, and an insert named by its index has its name
+abbrev turns-2 : List Field
+turns-2 = field (bytes "turns") (bytes "2") ∷ field (bytes "turns") (bytes "0") ∷ []
+
+pub stored-whole :
+    decoderOutputs 128 (read (insert 62 (by-bytes (bytes "turns")) (bytes "2")) 10 ∷ read (insert 63 (by-index 62) (bytes "0")) 4
+    ∷ block 0 0 (indexed 62 ∷ indexed 63 ∷ []) 64 ∷ []) ≡
+    nothing ∷ nothing ∷ fields turns-2 ∷ []
+unfolding decoderOutputs
+stored-whole = refl
 
 -- ---- ready, and freed by a collect
 

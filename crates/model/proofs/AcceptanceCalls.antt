@@ -9,10 +9,11 @@ use Rattle.fields.specs.Form.{Field}
 use Rattle.instructions.specs.Instruction.{insert, delete, acknowledge}
 use Rattle.blocks.specs.Representation.{Representation, indexed}
 use Rattle.model.specs.Parts.{lowestOpen}
+use Rattle.model.specs.Parts as parts
 use Rattle.model.specs.Outcome.{Output, nothing, instruction, fields}
 use Rattle.model.specs.Outcome as outcome
 use Rattle.model.specs.Decoder.{Decoder, startDecoder, holdOf, enquireHold}
-use Rattle.model.specs.DecoderCalls.{DecoderCall, read, block, decoderCall}
+use Rattle.model.specs.DecoderCalls.{DecoderCall, read, block, close, decoderCall}
 use Rattle.model.specs.Encoder.{Encoder, startEncoder, emptyList}
 use Rattle.model.specs.EncoderCalls.{EncoderCall, encoderCall}
 use Rattle.model.specs.EncoderCalls as at-encoder
@@ -91,6 +92,9 @@ past s = block s 0 [] 16
 
 abbrev pub past-trailer : ℕ → DecoderCall
 past-trailer s = block s 1 [] 16
+
+abbrev pub ended : ℕ → DecoderCall
+ended s = close parts.ended s
 
 -- a block that refers to 62, whose field takes five bytes
 abbrev pub refers-62 : DecoderCall

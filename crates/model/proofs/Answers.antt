@@ -43,7 +43,7 @@ unfolding decoderCall
 decoder-refused D (at-decoder.read i taken) = read-refused D i taken
 decoder-refused D (at-decoder.block s part rs room) =
     decoder.block-ways (Unchanged D) D (λ a z h. (refl, refl)) s part rs room (λ p fs e below turn m fits h. absurd (h refl))
-decoder-refused D (at-decoder.ended s) = decoder.end-ways (Unchanged D) D (λ a z h. (refl, refl)) s (λ below h. absurd (h refl))
+decoder-refused D (at-decoder.close k s) = decoder.close-ways (Unchanged D) D (λ a z h. (refl, refl)) k s (λ below h. absurd (h refl))
 decoder-refused D (at-decoder.collect room) =
     decoder.collect-ways (Unchanged D) D (λ a z h. (refl, refl)) room (λ e h. absurd (h refl)) (λ entry e fits h. absurd (h refl))
 decoder-refused D (at-decoder.hold i) = decoder.hold-ways (Unchanged D) D (λ a z h. (refl, refl)) i (λ d e h. absurd (h refl))

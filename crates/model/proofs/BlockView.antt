@@ -8,17 +8,18 @@ use mathlib.Core.Bool.{Bool, true, false}
 use mathlib.Core.Option.{Option, none, some}
 use mathlib.Core.List.{List, [], _∷_, List·Memᴰ·head, List·Memᴰ·tail, List·Memᴰ·cases-cons, List·Memᴰ·not-nil}
 use lib.ListN.{length}
-use lib.Dec.{ltb, leb}
-use borrow.Author.Tests.{leb-false, lt-leb, lt-ltb, le-leb}
+use lib.Dec.{ltb}
+use borrow.Author.Tests.{lt-ltb, le-leb}
 use Rattle.memory.specs.Choice.{pick, need}
 use Rattle.memory.proofs.Order.{need-true}
 use Rattle.statics.specs.Table.{Entry, entryAt}
 use Rattle.fields.specs.Form.{Field, listForm}
 use Rattle.wire.specs.Name.{indexed as by-index, literal as by-bytes}
-use Rattle.blocks.specs.Representation.{Representation, indexed, literal}
-use Rattle.blocks.specs.Meaning.{Slot, holds, withStatics, onSlot, field, fieldMeaning, BlockMeaning, list, afterField, blockMeaning, blockReferences}
+use Rattle.blocks.specs.Representation.{Representation, indexed, literal, AllFine}
+use Rattle.blocks.specs.Meaning.{Slot, holds, isStatic, withStatics, onSlot, field, fieldMeaning, BlockMeaning, list, afterField, blockMeaning, blockReferences}
 use Rattle.blocks.specs.Meaning.{Refers}
 use Rattle.blocks.specs.Meaning as meaning
+use Rattle.blocks.proofs.MeaningHeld.{static-above, above-static}
 use Rattle.model.specs.Table.{look}
 use Rattle.model.specs.Parts.{Part, partOf, inTurn, Delete, streams}
 use Rattle.model.specs.Outcome.{Outcome, refuse, fields}
@@ -67,9 +68,9 @@ module _ (D : Decoder) (i : ℕ) (rest : List Item) (m : BlockMeaning) (h : mach
 pub meaning-view : (D : Decoder) (rs : List Representation) → machine.meaning (slotsOf D) (slotItems rs) ≡ asAnswer (blockMeaning (lookup D) rs)
 unfolding machine.meaning slotItems slotItem blockMeaning fieldMeaning lookup withStatics
 meaning-view D [] = refl
-meaning-view D (indexed i ∷ rs) = index-view D i (slotItems rs) (blockMeaning (lookup D) rs) (meaning-view D rs) (leb i 61)
+meaning-view D (indexed i ∷ rs) = index-view D i (slotItems rs) (blockMeaning (lookup D) rs) (meaning-view D rs) (isStatic i)
 meaning-view D (literal flag (by-index i) value ∷ rs) =
-    literal-view D i (slotItems rs) (blockMeaning (lookup D) rs) (meaning-view D rs) flag value (leb i 61)
+    literal-view D i (slotItems rs) (blockMeaning (lookup D) rs) (meaning-view D rs) flag value (isStatic i)
 meaning-view D (literal flag (by-bytes name) value ∷ rs) = rw (meaning-view D rs) (put-view _ (blockMeaning (lookup D) rs))
 
 -- ---- a block
@@ -119,28 +120,28 @@ pub refers-items : (rs : List Representation) (i : ℕ) → Refers rs i → 61 <
 unfolding slotItems slotItem blockReferences
 refers-items [] i m l = absurd (List·Memᴰ·not-nil m)
 refers-items (indexed j ∷ rs) i m l =
-    ⊎-elim (λ (e : i ≡ j). rw (lt-leb j 61 (omega arith)) (names-index (sym e))) (λ n. names-later (refers-items rs i n l)) (List·Memᴰ·cases-cons m)
+    ⊎-elim (λ (e : i ≡ j). rw (static-above j (omega arith)) (names-index (sym e))) (λ n. names-later (refers-items rs i n l)) (List·Memᴰ·cases-cons m)
 refers-items (literal flag (by-index j) value ∷ rs) i m l =
-    ⊎-elim (λ (e : i ≡ j). rw (lt-leb j 61 (omega arith)) (names-name (sym e))) (λ n. names-later (refers-items rs i n l)) (List·Memᴰ·cases-cons m)
+    ⊎-elim (λ (e : i ≡ j). rw (static-above j (omega arith)) (names-name (sym e))) (λ n. names-later (refers-items rs i n l)) (List·Memᴰ·cases-cons m)
 refers-items (literal flag (by-bytes name) value ∷ rs) i m l = names-later (refers-items rs i m l)
 
-here-index : (i j : ℕ) (f : Field) (b : Bool) → leb j 61 ≡ b → here (pick b (given f) (byIndex j)) i → (61 < i) × (j ≡ i)
-here-index i j f true e h = absurd h
-here-index i j f false e h = let l = leb-false j 61 e in (omega arith, h)
+here-index : (i j : ℕ) (f : Field) → 0 < j → (b : Bool) → isStatic j ≡ b → here (pick b (given f) (byIndex j)) i → (61 < i) × (j ≡ i)
+here-index i j f low true e h = absurd h
+here-index i j f low false e h = (omega (arith, above-static j low e), h)
 
-here-name : (i j : ℕ) (f : Field) (flag : ℕ) (value : List ℕ) (b : Bool) → leb j 61 ≡ b → here (pick b (given f) (byName j flag value)) i
+here-name : (i j : ℕ) (f : Field) (flag : ℕ) (value : List ℕ) → 0 < j → (b : Bool) → isStatic j ≡ b → here (pick b (given f) (byName j flag value)) i
     → (61 < i) × (j ≡ i)
-here-name i j f flag value true e h = absurd h
-here-name i j f flag value false e h = let l = leb-false j 61 e in (omega arith, h)
+here-name i j f flag value low true e h = absurd h
+here-name i j f flag value low false e h = (omega (arith, above-static j low e), h)
 
--- and the other way round
-pub refers-back : (rs : List Representation) (i : ℕ) → machine.NamesSlot i (slotItems rs) → (61 < i) × Refers rs i
+-- and the other way round, in a block that can be said
+pub refers-back : (rs : List Representation) → AllFine rs → (i : ℕ) → machine.NamesSlot i (slotItems rs) → (61 < i) × Refers rs i
 unfolding slotItems slotItem blockReferences
-refers-back (indexed j ∷ rs) i m =
-    ⊎-elim (λ h. let e = here-index i j (fieldOf (entryAt j)) (leb j 61) refl h in (e .0, List·Memᴰ·head (sym (e .1))))
-    (λ n. let r = refers-back rs i n in (r .0, List·Memᴰ·tail (r .1))) (refers-cases (slotItem (indexed j)) (slotItems rs) i m)
-refers-back (literal flag (by-index j) value ∷ rs) i m =
-    ⊎-elim (λ h. let e = here-name i j (fieldNamed flag value (entryAt j)) flag value (leb j 61) refl h in (e .0, List·Memᴰ·head (sym (e .1))))
-    (λ n. let r = refers-back rs i n in (r .0, List·Memᴰ·tail (r .1))) (refers-cases (slotItem (literal flag (by-index j) value)) (slotItems rs) i m)
-refers-back (literal flag (by-bytes name) value ∷ rs) i m =
-    ⊎-elim (λ h. absurd h) (λ n. refers-back rs i n) (refers-cases (slotItem (literal flag (by-bytes name) value)) (slotItems rs) i m)
+refers-back (indexed j ∷ rs) a i m =
+    ⊎-elim (λ h. let e = here-index i j (fieldOf (entryAt j)) (a .0 .0) (isStatic j) refl h in (e .0, List·Memᴰ·head (sym (e .1))))
+    (λ n. let r = refers-back rs (a .1) i n in (r .0, List·Memᴰ·tail (r .1))) (refers-cases (slotItem (indexed j)) (slotItems rs) i m)
+refers-back (literal flag (by-index j) value ∷ rs) a i m =
+    ⊎-elim (λ h. let e = here-name i j (fieldNamed flag value (entryAt j)) flag value (a .0 .1 .0) (isStatic j) refl h in (e .0, List·Memᴰ·head (sym (e .1))))
+    (λ n. let r = refers-back rs (a .1) i n in (r .0, List·Memᴰ·tail (r .1))) (refers-cases (slotItem (literal flag (by-index j) value)) (slotItems rs) i m)
+refers-back (literal flag (by-bytes name) value ∷ rs) a i m =
+    ⊎-elim (λ h. absurd h) (λ n. refers-back rs (a .1) i n) (refers-cases (slotItem (literal flag (by-bytes name) value)) (slotItems rs) i m)

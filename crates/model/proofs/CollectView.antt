@@ -20,7 +20,7 @@ use Rattle.model.proofs.Tables.{nope, total-cut}
 use Rattle.model.proofs.Forms.{freed-held}
 use Rattle.model.proofs.Marks.{OpenPart, ready-marked, ready-or, part-low, and-both}
 use Rattle.model.proofs.Slots.Machine.{StreamPart, DeleteLists, partsBelow, partsAmong, namedParts, allMarked, deletedSlot, sizeOf, freeAt}
-use Rattle.model.proofs.Slots.Machine.{setSlot}
+use Rattle.model.proofs.Slots.Machine.{withSlots, setSlot}
 use Rattle.model.proofs.View.{listsOf, slotAt, slotsOf, tablesOf}
 use Rattle.model.proofs.TableView.{slots-cut}
 
@@ -150,7 +150,7 @@ module _ (D : Decoder) (F : FormsDecoder D) (h : Held) (there : look heldIndex (
         was = slot;
         all = ready-parts (D .finished) d (fine .plain) (fine .trailer) r;
         fits = omega arith;
-        view = λ k. record { slots = t k; finished = D .finished; filled = w k; limit = D .limit };
+        view = λ k. withSlots (tablesOf D) (t k) (w k);
       }
 
 pub collect-view : (D : Decoder) → FormsDecoder D → (h : Held) → nextFreed D ≡ some h → Freed D h

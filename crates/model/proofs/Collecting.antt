@@ -11,7 +11,7 @@ use borrow.Author.Tests.{le-leb, lt-leb}
 use Rattle.memory.proofs.Order.{need-true, need-false, not-both}
 use Rattle.instructions.specs.Instruction.{FineIndex, acknowledge, instructionWire}
 use Rattle.blocks.specs.Meaning.{holds}
-use Rattle.blocks.proofs.MeaningHeld.{dynamic-slot}
+use Rattle.blocks.proofs.MeaningHeld.{static-above, dynamic-slot}
 use Rattle.integers.specs.Answers.{no-room}
 use Rattle.model.specs.Table.{look}
 use Rattle.model.specs.Parts.{Delete}
@@ -39,7 +39,7 @@ module _ (D : Decoder) (F : FormsDecoder D) where
   unfolding lookup slotIn
   held-slot i h e =
       let low = held-index i h e .0 in
-      dynamic-slot (λ k. slotIn (look heldIndex k (D .entries))) i (omega arith) ∙ ap slotIn e
+      dynamic-slot (λ k. slotIn (look heldIndex k (D .entries))) i (static-above i (omega arith)) ∙ ap slotIn e
 
   ready-delete : (i : ℕ) → ready D i ≡ true → (d : Delete) × (deleteOf D i ≡ some d)
   unfolding ready readyDelete

@@ -15,13 +15,13 @@ use Rattle.fields.specs.Form.{Field, listForm}
 use Rattle.instructions.specs.Instruction.{insert, delete, acknowledge}
 use Rattle.blocks.specs.Representation.{Representation, indexed, AllFine}
 use Rattle.blocks.specs.Meaning.{Slot, holds, list, blockMeaning, fieldMeaning, onSlot, afterField}
-use Rattle.model.specs.Parts.{Part, nontrailer, trailer, partNumber, Marks, mark, inTurn, streams}
+use Rattle.model.specs.Parts.{Part, nontrailer, trailer, partNumber, Marks, mark, inTurn, streams, ended}
 use Rattle.model.specs.Outcome.{fields, Outcome, refuse, finish}
-use Rattle.model.specs.Decoder.{Decoder, lookup, withFinished, giveFields, decodePart, decodeBlock, endStream, without}
-use Rattle.model.specs.DecoderCalls.{DecoderCall, read, block, ended, collect, hold, unread, decoderCall, afterDecoder}
-use Rattle.model.specs.Ready.{CouldStill, FineCall}
-use Rattle.model.proofs.DecoderWays.{insert-ways, delete-ways, acknowledge-ways, block-ways, end-ways, collect-ways, hold-ways}
-use Rattle.model.proofs.Marks.{part-back, mark-keeps, both-keeps, mark-same, mark-marked, both-marked, marked-late, nontrailer-turn}
+use Rattle.model.specs.Decoder.{Decoder, lookup, withFinished, giveFields, decodePart, decodeBlock, closeParts, without}
+use Rattle.model.specs.DecoderCalls.{DecoderCall, read, block, close, collect, hold, unread, decoderCall, afterDecoder}
+use Rattle.model.specs.Ready.{AbstractCouldStill, FineCall}
+use Rattle.model.proofs.DecoderWays.{insert-ways, delete-ways, acknowledge-ways, block-ways, close-ways, collect-ways, hold-ways}
+use Rattle.model.proofs.Marks.{part-back, mark-keeps, closed-keeps, mark-same, mark-marked, both-marked, marked-late, nontrailer-turn}
 use Rattle.model.proofs.Marks.{trailer-turn}
 
 -- ---- finished parts stay finished
@@ -37,7 +37,7 @@ module _ (D : Decoder) (s : ℕ) (p : Part) (h : D .finished s p ≡ true) where
   call-stays (read (acknowledge i) taken) = acknowledge-ways (Stays s p) D (λ a z. h) i taken
   call-stays (block t part rs room) =
       block-ways (Stays s p) D (λ a z. h) t part rs room (λ q fs e low turn m fits. mark-keeps t q (D .finished) s p h)
-  call-stays (ended t) = end-ways (Stays s p) D (λ a z. h) t (λ low. both-keeps t (D .finished) s p h)
+  call-stays (close k t) = close-ways (Stays s p) D (λ a z. h) k t (λ low. closed-keeps k t (D .finished) s p h)
   call-stays (collect room) = collect-ways (Stays s p) D (λ a z. h) room (λ e. h) (λ x e fits. h)
   call-stays (hold i) = hold-ways (Stays s p) D (λ a z. h) i (λ d e. h)
   call-stays (unread number) = h
@@ -65,7 +65,7 @@ block-done D s p rs room =
     subst (λ (r : Part). Done D s p (finish (withFinished D (mark s r (D .finished))) (length (listForm fs)) 0 (fields fs))) (sym same)
     (record { turn = rw same at turn; after = mark-marked s p (D .finished) }))
 
-pub finished-refuses : (D : Decoder) (s : ℕ) (p : Part) (rs : List Representation) → D .finished s p ≡ true → CouldStill D s p rs → ⊥
+pub finished-refuses : (D : Decoder) (s : ℕ) (p : Part) (rs : List Representation) → D .finished s p ≡ true → AbstractCouldStill D s p rs → ⊥
 finished-refuses D s p rs h c =
     let E = afterDecoder D (c .first) in
     not-both (inTurn (E .finished) s p) (block-done E s p rs (c .room) (c .accepted) .turn)
@@ -76,15 +76,15 @@ finished-refuses D s p rs h c =
 -- "A non-trailer block answered "done" finishes its part .. the same for the trailer": no block is accepted there any more
 pub done-finishes : (D : Decoder) (s : ℕ) (p : Part) (rs : List Representation) (room : ℕ)
     → decoderCall D (block s (partNumber p) rs room) .answer .number ≡ 0
-    → (qs : List Representation) → CouldStill (decoderCall D (block s (partNumber p) rs room) .state) s p qs → ⊥
+    → (qs : List Representation) → AbstractCouldStill (decoderCall D (block s (partNumber p) rs room) .state) s p qs → ⊥
 done-finishes D s p rs room e qs =
     finished-refuses (decoderCall D (block s (partNumber p) rs room) .state) s p qs (block-done D s p rs room e .after)
 
 -- "a stream has ended or was reset: both parts are finished": no block is accepted on it any more
-pub ended-finishes : (D : Decoder) (s : ℕ) (p : Part) → s < streams → (rs : List Representation) → CouldStill (decoderCall D (ended s) .state) s p rs → ⊥
-unfolding decoderCall endStream
+pub ended-finishes : (D : Decoder) (s : ℕ) (p : Part) → s < streams → (rs : List Representation) → AbstractCouldStill (decoderCall D (close ended s) .state) s p rs → ⊥
+unfolding decoderCall closeParts
 ended-finishes D s p low rs =
-    finished-refuses (endStream D s .state) s p rs
+    finished-refuses (closeParts D ended s .state) s p rs
     (need-both (λ (o : Outcome Decoder). o .state .finished s p ≡ true) (ltb s streams) (refuse D 11) _
     (λ t. not-both (ltb s streams) (lt-ltb s streams low) t) (λ t. both-marked s (D .finished) p))
 
@@ -121,7 +121,7 @@ unfolding blockMeaning
 empty-means look-up = refl
 
 in-turn-takes : (D : Decoder) (i : ℕ) (e : Entry) (s : ℕ) (p : Part) → s < streams → AllFine (indexed i ∷ []) → lookup D i ≡ holds e
-    → inTurn (D .finished) s p ≡ true → CouldStill D s p (indexed i ∷ [])
+    → inTurn (D .finished) s p ≡ true → AbstractCouldStill D s p (indexed i ∷ [])
 unfolding afterDecoder
 in-turn-takes D i e s p low f h turn = record {
   says = f;
@@ -133,7 +133,7 @@ in-turn-takes D i e s p low f h turn = record {
 
 -- what could be accepted after a call, could be before it
 before : (D : Decoder) (c : DecoderCall) (s : ℕ) (p : Part) (rs : List Representation) → FineCall c
-    → CouldStill (decoderCall D c .state) s p rs → CouldStill D s p rs
+    → AbstractCouldStill (decoderCall D c .state) s p rs → AbstractCouldStill D s p rs
 unfolding afterDecoder
 before D c s p rs f k = record { says = k .says; first = c ∷ k .first; calls = (f, k .calls); room = k .room; accepted = k .accepted }
 
@@ -151,7 +151,7 @@ same-lookup D marks = refl
 
 -- an unfinished part can still take a block that refers to a held entry
 pub open-takes : (D : Decoder) (i : ℕ) (e : Entry) (s : ℕ) (p : Part) → s < streams → AllFine (indexed i ∷ []) → lookup D i ≡ holds e
-    → D .finished s p ≡ false → CouldStill D s p (indexed i ∷ [])
+    → D .finished s p ≡ false → AbstractCouldStill D s p (indexed i ∷ [])
 open-takes D i e s nontrailer low f h k = in-turn-takes D i e s nontrailer low f h (nontrailer-turn (D .finished) s k)
 open-takes D i e s trailer low f h k =
     either (D .finished s nontrailer)

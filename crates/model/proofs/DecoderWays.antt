@@ -20,11 +20,11 @@ use Rattle.blocks.specs.Representation.{Representation}
 use Rattle.blocks.specs.Meaning.{BlockMeaning, list, blockMeaning}
 use Rattle.blocks.specs.Meaning as meaning
 use Rattle.model.specs.Table.{size, look, put}
-use Rattle.model.specs.Parts.{Part, partOf, mark, markBoth, inTurn, Delete, openBelow, lowestOpen, streams}
+use Rattle.model.specs.Parts.{Part, partOf, mark, Closing, closed, inTurn, Delete, openBelow, lowestOpen, streams}
 use Rattle.model.specs.Outcome.{nothing, instruction, fields, Outcome, finish}
 use Rattle.model.specs.Decoder.{Held, heldIndex, Decoder, heldSize, lookup, deleteOf, withEntries, nameBytes, isSome, insertNamed, deleteEntry}
-use Rattle.model.specs.Decoder.{readInstruction, withFinished, giveFields, decodePart, decodeBlock, endStream, nextFreed, without, freeEntry}
-use Rattle.model.specs.Decoder.{collectEntry, holdOf, enquireHold}
+use Rattle.model.specs.Decoder.{readInstruction, withFinished, giveFields, decodePart, decodeBlock, closeParts, nextFreed, without, freeEntry}
+use Rattle.model.specs.Decoder.{withDeletes, collectEntry, holdOf, enquireHold}
 use Rattle.model.proofs.Tables.{nope}
 
 -- what a test for an entry tells
@@ -40,7 +40,7 @@ abbrev pub newHeld : ℕ → List ℕ → List ℕ → Held
 newHeld i name value = record { index = i; entry = record { name = name; value = value } }
 
 abbrev pub withDelete : Decoder → Delete → Decoder
-withDelete D d = record { limit = D .limit; entries = D .entries; deletes = D .deletes ++ (d ∷ []); finished = D .finished }
+withDelete D d = withDeletes D (D .deletes ++ (d ∷ []))
 
 module _ {κ} (R : Outcome Decoder → Type κ) (D : Decoder)
     (refused : (a : Answer) → eqb (a .number) 0 ≡ false → R (record { state = D; answer = a; output = nothing })) where
@@ -96,9 +96,9 @@ module _ {κ} (R : Outcome Decoder → Type κ) (D : Decoder)
           (λ f. need-both R (inTurn (D .finished) s p) _ _ (λ g. refused (refusal out-of-turn) refl)
           (λ g. give p e (ltb-true _ _ f) g (blockMeaning (lookup D) rs) refl))
 
-  pub end-ways : (s : ℕ) → (s < streams → R (finish (withFinished D (markBoth s (D .finished))) 0 0 nothing)) → R (endStream D s)
-  unfolding endStream
-  end-ways s ended = need-both R (ltb s streams) _ _ (λ f. refused (refusal out-of-turn) refl) (λ f. ended (ltb-true _ _ f))
+  pub close-ways : (k : Closing) (s : ℕ) → (s < streams → R (finish (withFinished D (closed k s (D .finished))) 0 0 nothing)) → R (closeParts D k s)
+  unfolding closeParts
+  close-ways k s done = need-both R (ltb s streams) _ _ (λ f. refused (refusal out-of-turn) refl) (λ f. done (ltb-true _ _ f))
 
   pub collect-ways : (room : ℕ)
       → (nextFreed D ≡ none → R (finish D 0 0 nothing))

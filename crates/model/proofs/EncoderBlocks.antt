@@ -9,15 +9,15 @@ use mathlib.Core.Bool.{Bool, true, false}
 use mathlib.Core.Option.{Option, none, some, Option·map}
 use mathlib.Core.List.{List, [], _∷_, _++_, map, append-nil, List·Memᴰ, List·Memᴰ·head, List·Memᴰ·tail, Memᴰ·append-left, Memᴰ·append-right}
 use mathlib.Core.List.{List·Memᴰ·append-cases, Memᴰ·cast}
-use lib.Dec.{leb, eqb}
-use borrow.Author.Tests.{lt-leb}
+use lib.Dec.{eqb}
 use Rattle.memory.specs.Choice.{pick}
 use Rattle.memory.proofs.Order.{pick-both, pick-true, pick-false}
 use Rattle.wire.specs.Name.{indexed as by-index, literal as by-bytes}
 use Rattle.statics.specs.Table.{Entry, entryAt}
 use Rattle.fields.specs.Form.{Field}
 use Rattle.blocks.specs.Representation.{Representation, indexed, literal}
-use Rattle.blocks.specs.Meaning.{blockReferences}
+use Rattle.blocks.specs.Meaning.{isStatic, blockReferences}
+use Rattle.blocks.proofs.MeaningHeld.{static-above}
 use Rattle.model.specs.Table.{Ascending, look}
 use Rattle.model.specs.Parts.{Part, nontrailer, trailer}
 use Rattle.model.specs.Encoder.{Sent, sentIndex, choose, mentions, referred, refer}
@@ -95,10 +95,10 @@ refs-tail P (meantName i c n v) b r = r .1
 module _ (l : List Sent) (P : ℕ → Entry → Type 0) where
   -- a mentioned dynamic index is one of the references
   dynamic : (i j : ℕ) → 61 < i → (f : Field) (y : MeantItem) (c : Entry) (b : List MeantItem) → (EachReference P (y ∷ b) → P j c)
-      → EachReference P (pick (leb j 61) (meantGiven f) y ∷ b) → j ≡ i → P i c
+      → EachReference P (pick (isStatic j) (meantGiven f) y ∷ b) → j ≡ i → P i c
   dynamic i j h f y c b at r e =
       subst (λ (n : ℕ). P n c) e
-      (at (subst (λ (x : MeantItem). EachReference P (x ∷ b)) (pick-false (leb j 61) (meantGiven f) y (lt-leb j 61 (omega arith))) r))
+      (at (subst (λ (x : MeantItem). EachReference P (x ∷ b)) (pick-false (isStatic j) (meantGiven f) y (static-above j (omega arith))) r))
 
   mentioned : (i : ℕ) → 61 < i → (rs : List Representation) → EachReference P (meantBy l rs) → mentions (blockReferences rs) i ≡ true → (c : Entry) × P i c
   unfolding blockReferences mentions meantBy meant
@@ -131,13 +131,13 @@ module _ (l : List Sent) (P : ℕ → Entry → Type 0) where
   unfolding blockReferences mentions meantBy meant
   mentions-all [] r = tt
   mentions-all (indexed j ∷ rs) r =
-      pick-both (λ (x : MeantItem). EachReference P (x ∷ meantBy l rs) → EachReference (Behind j rs) (x ∷ meantBy l rs)) (leb j 61)
+      pick-both (λ (x : MeantItem). EachReference P (x ∷ meantBy l rs) → EachReference (Behind j rs) (x ∷ meantBy l rs)) (isStatic j)
       (meantGiven (fieldOf (entryAt j)))
       (meantIndex j (entryOf (look sentIndex j l)))
       (λ t u. behind j rs (meantBy l rs) (mentions-all rs u))
       (λ t u. ((u .0, pick-yes j j true (mentions (blockReferences rs) j) refl), behind j rs (meantBy l rs) (mentions-all rs (u .1)))) r
   mentions-all (literal flag (by-index j) v ∷ rs) r =
-      pick-both (λ (x : MeantItem). EachReference P (x ∷ meantBy l rs) → EachReference (Behind j rs) (x ∷ meantBy l rs)) (leb j 61)
+      pick-both (λ (x : MeantItem). EachReference P (x ∷ meantBy l rs) → EachReference (Behind j rs) (x ∷ meantBy l rs)) (isStatic j)
       (meantGiven (fieldNamed flag v (entryAt j)))
       (meantName j (entryOf (look sentIndex j l)) flag v)
       (λ t u. behind j rs (meantBy l rs) (mentions-all rs u))

@@ -1,13 +1,13 @@
 -- A block that the encoder writes, with the entries that it means: read back it gives the fields put in, and each entry that it names is held
 -- and not under deletion. By the cases of the choice of representation.
 use mathlib.Core.Path.{_≡_, refl, sym, ap, _∙_, subst}
-use Prim.Native.Nat.{ℕ, _≤_, _<_}
+use Prim.Native.Nat.{ℕ, _<_}
 use native.Mathlib.Omega.{arith}
 use mathlib.Core.Bool.{Bool, true, false, not}
 use mathlib.Core.Option.{Option, none, some}
 use mathlib.Core.List.{List, [], _∷_, map}
-use lib.Dec.{leb, eqb}
-use borrow.Author.Tests.{not-true, le-leb, lt-leb, eqb-true, eqb-false}
+use lib.Dec.{eqb}
+use borrow.Author.Tests.{not-true, eqb-true, eqb-false}
 use Rattle.memory.specs.Choice.{pick}
 use Rattle.memory.specs.Compare.{same}
 use Rattle.memory.proofs.Order.{split, pick-both, pick-true, pick-false}
@@ -20,6 +20,8 @@ use Rattle.statics.specs.declared.search.StaticFound.the-variants.{At, Nothing}
 use Rattle.statics.proofs.Finding.{name-found, both-found}
 use Rattle.fields.specs.Form.{Field, AllFine}
 use Rattle.blocks.specs.Representation.{Representation, indexed, literal}
+use Rattle.blocks.specs.Meaning.{isStatic}
+use Rattle.blocks.proofs.MeaningHeld.{static-within, static-above}
 use Rattle.model.specs.Table.{Ascending, look, lowest}
 use Rattle.model.specs.Encoder.{Sent, sentIndex, serves, servesBoth, dynamicName, staticName, chooseName, dynamicField, staticField, choose}
 use Rattle.model.proofs.Tables.{nope, look-below, lowest-sound}
@@ -36,9 +38,9 @@ entryOf (some e) = e .entry
 
 unfoldable pub meant : List Sent → Representation → MeantItem
 unfolding entryOf
-meant l (indexed i) = pick (leb i 61) (meantGiven (fieldOf (entryAt i))) (meantIndex i (entryOf (look sentIndex i l)))
+meant l (indexed i) = pick (isStatic i) (meantGiven (fieldOf (entryAt i))) (meantIndex i (entryOf (look sentIndex i l)))
 meant l (literal flag (by-index i) value) =
-    pick (leb i 61) (meantGiven (fieldNamed flag value (entryAt i))) (meantName i (entryOf (look sentIndex i l)) flag value)
+    pick (isStatic i) (meantGiven (fieldNamed flag value (entryAt i))) (meantName i (entryOf (look sentIndex i l)) flag value)
 meant l (literal flag (by-bytes name) value) = meantGiven (record { flag = flag; name = name; value = value })
 
 unfoldable pub meantBy : List Sent → List Representation → List MeantItem
@@ -59,11 +61,11 @@ pub meant-plain : (l : List Sent) (rs : List Representation) → asItems (meantB
 unfolding meantBy meant asItems slotItems slotItem
 meant-plain l [] = refl
 meant-plain l (indexed i ∷ rs) =
-    plain-pick (leb i 61) (meantGiven (fieldOf (entryAt i))) (meantIndex i (entryOf (look sentIndex i l))) (given (fieldOf (entryAt i))) (byIndex i)
+    plain-pick (isStatic i) (meantGiven (fieldOf (entryAt i))) (meantIndex i (entryOf (look sentIndex i l))) (given (fieldOf (entryAt i))) (byIndex i)
     (meantBy l rs) refl refl
     ∙ ap (λ (t : List Item). slotItem (indexed i) ∷ t) (meant-plain l rs)
 meant-plain l (literal flag (by-index i) value ∷ rs) =
-    plain-pick (leb i 61) (meantGiven (fieldNamed flag value (entryAt i))) (meantName i (entryOf (look sentIndex i l)) flag value)
+    plain-pick (isStatic i) (meantGiven (fieldNamed flag value (entryAt i))) (meantName i (entryOf (look sentIndex i l)) flag value)
     (given (fieldNamed flag value (entryAt i))) (byName i flag value) (meantBy l rs) refl refl
     ∙ ap (λ (t : List Item). slotItem (literal flag (by-index i) value) ∷ t) (meant-plain l rs)
 meant-plain l (literal flag (by-bytes name) value ∷ rs) =
@@ -98,7 +100,7 @@ module _ (l : List Sent) (a : Ascending sentIndex 62 l) where
   -- how a name was chosen
   pub data Chosen (name : List ℕ) (n : Name) : Type 0 where
     by-string : n ≡ by-bytes name → Chosen name n
-    by-static : (j : ℕ) → j ≤ 61 → entryAt j .name ≡ name → n ≡ by-index j → Chosen name n
+    by-static : (j : ℕ) → isStatic j ≡ true → entryAt j .name ≡ name → n ≡ by-index j → Chosen name n
     by-entry : (e : Sent) → look sentIndex (e .index) l ≡ some e → e .entry .name ≡ name → e .deleted ≡ false → n ≡ by-index (e .index) → Chosen name n
 
   pub name-chosen : (name : List ℕ) → Chosen name (chooseName l name)
@@ -113,7 +115,7 @@ module _ (l : List Sent) (a : Ascending sentIndex 62 l) where
           by-entry e (s .0) (r .0) (r .1) refl
 
       go : (o : StaticFound) → findName name ≡ o → Chosen name (staticName l name o)
-      go (At j) h = let w = name-found name 61 1 j h in by-static (j .value) (let z = w .high in omega arith) (w .holds) refl
+      go (At j) h = let w = name-found name 61 1 j h in by-static (j .value) (static-within (j .value) (w .low) (omega (arith, w .high))) (w .holds) refl
       go Nothing h = dynamic (lowest sentIndex (serves name) l) refl
 
   -- what a representation is worth: it means the field, and an entry that it names is held and not under deletion
@@ -124,13 +126,13 @@ module _ (l : List Sent) (a : Ascending sentIndex 62 l) where
     pub index-meant : meant l (indexed (e .index)) ≡ meantIndex (e .index) (e .entry)
     unfolding meant entryOf
     index-meant =
-        pick-false (leb (e .index) 61) _ _ (lt-leb (e .index) 61 (found-high (e .index) e found))
+        pick-false (isStatic (e .index)) _ _ (static-above (e .index) (found-high (e .index) e found))
         ∙ ap (λ (o : Option Sent). meantIndex (e .index) (entryOf o)) found
 
     pub name-meant : (flag : ℕ) (value : List ℕ) → meant l (literal flag (by-index (e .index)) value) ≡ meantName (e .index) (e .entry) flag value
     unfolding meant entryOf
     name-meant flag value =
-        pick-false (leb (e .index) 61) _ _ (lt-leb (e .index) 61 (found-high (e .index) e found))
+        pick-false (isStatic (e .index)) _ _ (static-above (e .index) (found-high (e .index) e found))
         ∙ ap (λ (o : Option Sent). meantName (e .index) (entryOf o) flag value) found
 
   module _ (f : Field) where
@@ -140,9 +142,9 @@ module _ (l : List Sent) (a : Ascending sentIndex 62 l) where
       where
         go : (m : Name) → Chosen (f .name) m → Sound f (meant l (literal flag m (f .value)))
         go m (by-string q) = rw q ((λ w k. record { flag = n w k; name = f .name; value = f .value } ∷ []), tt)
-        go m (by-static j low same q) =
+        go m (by-static j static same q) =
             rw q
-            (subst (Sound f) (sym (pick-true (leb j 61) _ _ (le-leb j 61 low)))
+            (subst (Sound f) (sym (pick-true (isStatic j) _ _ static))
             ((λ t k. record { flag = n t k; name = same k; value = f .value } ∷ []), tt))
         go m (by-entry e found same lives q) =
             rw q
@@ -168,10 +170,10 @@ module _ (l : List Sent) (a : Ascending sentIndex 62 l) where
         go : (o : StaticFound) → findBoth (f .name) (f .value) ≡ o → Sound f (meant l (staticField l f o))
         go (At j) h =
             let w = both-found (f .name) (f .value) 61 1 j h in
-            let low : j .value ≤ 61 = let z = w .high in omega arith in
+            let static = static-within (j .value) (w .low) (omega (arith, w .high)) in
             let same : entryAt (j .value) .name ≡ f .name = w .holds .0 in
             let same′ : entryAt (j .value) .value ≡ f .value = w .holds .1 in
-            subst (Sound f) (sym (pick-true (leb (j .value) 61) _ _ (le-leb (j .value) 61 low)))
+            subst (Sound f) (sym (pick-true (isStatic (j .value)) _ _ static))
             ((λ t k. record { flag = n t k; name = same k; value = same′ k } ∷ []), tt)
         go Nothing h = both-dynamic n (lowest sentIndex (servesBoth (f .name) (f .value)) l) refl
 

@@ -1,11 +1,11 @@
 -- Each call of the encoder keeps the invariant of the slots: an insert, a delete, a block, and an acknowledgement read. By the cases of the
 -- choice of name, and the laws of the table's changes.
 use mathlib.Core.Path.{_≡_, sym, ap, _∙_}
-use Prim.Native.Nat.{ℕ, suc, _+_, _-_, _≤_}
+use Prim.Native.Nat.{ℕ, _+_, _-_, _≤_}
 use native.Mathlib.Omega.{arith}
 use mathlib.Core.Bool.{false}
 use mathlib.Core.Option.{none, some}
-use mathlib.Core.List.{List, [], _∷_, _++_, map}
+use mathlib.Core.List.{List, _∷_, map}
 use Rattle.memory.proofs.Order.{need-true}
 use Rattle.wire.specs.Name.{Name}
 use Rattle.statics.specs.Table.{Entry}
@@ -19,7 +19,7 @@ use Rattle.model.proofs.Tables.{look-index, vacant-free}
 use Rattle.model.proofs.Slots.Functions.{setAt}
 use Rattle.model.proofs.Slots.Machine.{StreamPart, noLists}
 use Rattle.model.proofs.Slots.Messages.{EncoderSlot, freeSent, liveSent, deletedSent, Note, noteInsert, noteNamed, noteDelete, FreedNote}
-use Rattle.model.proofs.Slots.Invariant.{MeantItem, Link, Invariant, EachReference}
+use Rattle.model.proofs.Slots.Invariant.{MeantItem, Link, withEncoder, withNote, withAcks, withBlock, Invariant, EachReference}
 use Rattle.model.proofs.Slots.Writing.{afterInsert, afterNamed, afterDelete, insert-invariant, named-invariant, delete-invariant}
 use Rattle.model.proofs.Slots.Referring.{afterBlock, Grown, NewReference, block-invariant}
 use Rattle.model.proofs.Slots.Freeing.{afterAck, ack-taken, ack-invariant}
@@ -33,39 +33,13 @@ use Rattle.model.proofs.EncoderNotes.{noteBy, noteOf, note-static, note
 -- ---- the link after a call of the encoder that left these entries
 
 abbrev pub saidTo : Link → List Sent → Note → Link
-saidTo L l note =
-    record {
-      encoderSlots = slotsSent l;
-      encoderFilled = sentSize l;
-      decoder = L .decoder;
-      writtenCount = suc (L .writtenCount);
-      unread = L .unread ++ (record { number = L .writtenCount; note = note } ∷ []);
-      unreadAcks = L .unreadAcks;
-      blocks = L .blocks;
-    }
+saidTo L l note = withNote (withEncoder L (slotsSent l) (sentSize l)) note
 
 abbrev pub wroteTo : Link → List Sent → StreamPart → List MeantItem → Link
-wroteTo L l q b =
-    record {
-      encoderSlots = slotsSent l;
-      encoderFilled = sentSize l;
-      decoder = L .decoder;
-      writtenCount = L .writtenCount;
-      unread = L .unread;
-      unreadAcks = L .unreadAcks;
-      blocks = record { place = q; items = b; before = L .writtenCount } ∷ L .blocks;
-    }
+wroteTo L l q b = withBlock (withEncoder L (slotsSent l) (sentSize l)) q b
 
 abbrev pub ackedTo : Link → List Sent → List FreedNote → Link
-ackedTo L l rest = record {
-  encoderSlots = slotsSent l;
-  encoderFilled = sentSize l;
-  decoder = L .decoder;
-  writtenCount = L .writtenCount;
-  unread = L .unread;
-  unreadAcks = rest;
-  blocks = L .blocks;
-}
+ackedTo L l rest = withAcks (withEncoder L (slotsSent l) (sentSize l)) rest
 
 -- the acknowledgement of an entry under deletion is accepted
 pub ack-done : (E : Encoder) (i : ℕ) (c : Entry) (g : DeletedEntry (E .entries) i c) (taken : ℕ)
@@ -104,25 +78,9 @@ module _ (E : Encoder) (F : FormsEncoder E) (L : Link) (enc : L .encoderSlots �
       sizes = size-put (E .entries) (newSent i name value) ∙ ap (λ (t : ℕ). t + size (record { name = name; value = value })) (sym hold)
 
       to : (n : Note) → saidTo L (put sentIndex (newSent i name value) (E .entries)) n ≡
-          record {
-            encoderSlots = setAt i (liveSent (record { name = name; value = value }) noLists) (L .encoderSlots);
-            encoderFilled = L .encoderFilled + size (record { name = name; value = value });
-            decoder = L .decoder;
-            writtenCount = suc (L .writtenCount);
-            unread = L .unread ++ (record { number = L .writtenCount; note = n } ∷ []);
-            unreadAcks = L .unreadAcks;
-            blocks = L .blocks;
-          }
-      to n k =
-          record {
-            encoderSlots = table k;
-            encoderFilled = sizes k;
-            decoder = L .decoder;
-            writtenCount = suc (L .writtenCount);
-            unread = L .unread ++ (record { number = L .writtenCount; note = n } ∷ []);
-            unreadAcks = L .unreadAcks;
-            blocks = L .blocks;
-          }
+          withNote (withEncoder L (setAt i (liveSent (record { name = name; value = value }) noLists) (L .encoderSlots))
+          (L .encoderFilled + size (record { name = name; value = value }))) n
+      to n k = withNote (withEncoder L (table k) (sizes k)) n
 
       alone : Invariant (saidTo L (put sentIndex (newSent i name value) (E .entries)) (noteInsert i (record { name = name; value = value })))
       alone = rw (to (noteInsert i (record { name = name; value = value }))) (insert-invariant L i (record { name = name; value = value }) free room I)
@@ -130,7 +88,7 @@ module _ (E : Encoder) (F : FormsEncoder E) (L : Link) (enc : L .encoderSlots �
       go : (n : Name) → Chosen (E .entries) (F .order) name n
           → Invariant (saidTo L (put sentIndex (newSent i name value) (E .entries)) (noteBy i (record { name = name; value = value }) n))
       go n (by-string q) = rw q alone
-      go n (by-static j low same q) = rw (q, note-static i j (record { name = name; value = value }) low) alone
+      go n (by-static j static same q) = rw (q, note-static i j (record { name = name; value = value }) static) alone
       go n (by-entry e found same lives q) =
           rw (q, note-dynamic i (e .index) (record { name = name; value = value }) (found-high (E .entries) (F .order) (e .index) e found))
           (rw (to (noteNamed i (e .index) (record { name = name; value = value })))
@@ -145,15 +103,9 @@ module _ (E : Encoder) (F : FormsEncoder E) (L : Link) (enc : L .encoderSlots �
       let here : look sentIndex (e .index) (E .entries) ≡ some e
       = ap (λ (j : ℕ). look sentIndex j (E .entries)) (look-index sentIndex i (E .entries) e found) ∙ found in
       let to : saidTo L (map (deleteAt (e .index)) (E .entries)) (noteDelete (e .index) (listsSent e)) ≡ afterDelete L (e .index) (e .entry) (listsSent e)
-      = λ k. record {
-        encoderSlots = (slots-delete (E .entries) (e .index) e here ∙ ap (setAt (e .index) (deletedSent (e .entry) (listsSent e))) (sym enc)) k;
-        encoderFilled = (size-delete (E .entries) (e .index) ∙ sym hold) k;
-        decoder = L .decoder;
-        writtenCount = suc (L .writtenCount);
-        unread = L .unread ++ (record { number = L .writtenCount; note = noteDelete (e .index) (listsSent e) } ∷ []);
-        unreadAcks = L .unreadAcks;
-        blocks = L .blocks;
-      } in
+      = λ k.
+      withNote (withEncoder L ((slots-delete (E .entries) (e .index) e here ∙ ap (setAt (e .index) (deletedSent (e .entry) (listsSent e))) (sym enc)) k)
+      ((size-delete (E .entries) (e .index) ∙ sym hold) k)) (noteDelete (e .index) (listsSent e)) in
       rw to
       (delete-invariant L (e .index) (e .entry) (listsSent e) (listsSent e) (slot (e .index) ∙ slots-live (E .entries) (e .index) e here lives) (λ p m. m) I)
 
@@ -174,15 +126,8 @@ module _ (E : Encoder) (F : FormsEncoder E) (L : Link) (enc : L .encoderSlots �
     to-block : wroteTo L after (record { stream = s; part = p }) items ≡ afterBlock L (record { stream = s; part = p }) items (slotsSent after)
     unfolding afterBlock
     to-block k =
-        record {
-          encoderSlots = slotsSent after;
-          encoderFilled = (size-refer (E .entries) s p (map (choose (E .entries)) fs) ∙ sym hold) k;
-          decoder = L .decoder;
-          writtenCount = L .writtenCount;
-          unread = L .unread;
-          unreadAcks = L .unreadAcks;
-          blocks = record { place = record { stream = s; part = p }; items = items; before = L .writtenCount } ∷ L .blocks;
-        }
+        withBlock (withEncoder L (slotsSent after) ((size-refer (E .entries) s p (map (choose (E .entries)) fs) ∙ sym hold) k))
+        (record { stream = s; part = p }) items
 
     pub block-kept : Invariant L → Invariant (wroteTo L after (record { stream = s; part = p }) items)
     block-kept I = rw to-block (block-invariant L (record { stream = s; part = p }) items (slotsSent after) grown fresh I)
@@ -199,13 +144,7 @@ module _ (E : Encoder) (F : FormsEncoder E) (L : Link) (enc : L .encoderSlots �
   ack-kept a rest h e found was I =
       let x : e .index ≡ a .slot = look-index sentIndex (a .slot) (E .entries) e found in
       let to : ackedTo L (cut sentIndex (a .slot) (E .entries)) rest ≡ afterAck L a rest
-      = λ k. record {
-        encoderSlots = (slots-cut (E .entries) (a .slot) 62 (F .order) ∙ ap (setAt (a .slot) freeSent) (sym enc)) k;
-        encoderFilled = (size-cut (E .entries) (a .slot) e found ∙ (λ j. sym hold j - size (was j))) k;
-        decoder = L .decoder;
-        writtenCount = L .writtenCount;
-        unread = L .unread;
-        unreadAcks = rest;
-        blocks = L .blocks;
-      } in
+      = λ k.
+      withAcks (withEncoder L ((slots-cut (E .entries) (a .slot) 62 (F .order) ∙ ap (setAt (a .slot) freeSent) (sym enc)) k)
+      ((size-cut (E .entries) (a .slot) e found ∙ (λ j. sym hold j - size (was j))) k)) rest in
       rw (x, to) (ack-invariant L a rest h I)

@@ -7,22 +7,21 @@ use mathlib.Core.Bool.{true}
 use mathlib.Core.Option.{Option, none, some}
 use mathlib.Core.List.{List, [], _∷_}
 use lib.ListN.{length}
-use lib.Dec.{leb}
 use Rattle.memory.proofs.Order.{pick-both}
 use Rattle.wire.specs.Name.{Name, indexed, literal, FineName}
 use Rattle.statics.specs.Table.{entryAt}
 use Rattle.statics.proofs.Places.{name-most}
 use Rattle.instructions.specs.Instruction.{Instruction, insert, delete, acknowledge, Fine}
-use Rattle.blocks.specs.Meaning.{Slot, holds, withStatics}
+use Rattle.blocks.specs.Meaning.{Slot, holds, isStatic, withStatics}
 use Rattle.model.specs.Table.{look, total}
-use Rattle.model.specs.Parts.{mark, markBoth}
+use Rattle.model.specs.Parts.{mark, closed}
 use Rattle.model.specs.Outcome.{Outcome}
 use Rattle.model.specs.Decoder.{Held, heldIndex, Decoder, heldSize, slotIn, lookup, deleteOf, startDecoder, slotName, nameBytes, isSome}
 use Rattle.model.specs.Decoder.{readInstruction, ready, nextFreed, FineHeld, FormsDecoder}
-use Rattle.model.specs.DecoderCalls.{DecoderCall, read, block, ended, collect, hold, unread, decoderCall, afterDecoder}
+use Rattle.model.specs.DecoderCalls.{DecoderCall, read, block, close, collect, hold, unread, decoderCall, afterDecoder}
 use Rattle.model.specs.Ready.{FineCall, FineCalls}
 use Rattle.model.proofs.Tables.{nope, lowest-sound}
-use Rattle.model.proofs.DecoderWays.{newHeld, insert-ways, delete-ways, acknowledge-ways, block-ways, end-ways, collect-ways, hold-ways}
+use Rattle.model.proofs.DecoderWays.{newHeld, insert-ways, delete-ways, acknowledge-ways, block-ways, close-ways, collect-ways, hold-ways}
 use Rattle.model.proofs.TableChanges.{forms-finished, forms-put, forms-delete, forms-free}
 
 pub forms-start : (limit : ℕ) → limit ≤ 4096 → FormsDecoder (startDecoder limit)
@@ -44,7 +43,7 @@ module _ (D : Decoder) (F : FormsDecoder D) where
   index-name : (i : ℕ) (name : List ℕ) → slotName (lookup D i) ≡ some name → length name ≤ 255
   unfolding lookup withStatics
   index-name i name e =
-      pick-both (λ (s : Slot). slotName s ≡ some name → length name ≤ 255) (leb i 61) (holds (entryAt i)) (slotIn (look heldIndex i (D .entries)))
+      pick-both (λ (s : Slot). slotName s ≡ some name → length name ≤ 255) (isStatic i) (holds (entryAt i)) (slotIn (look heldIndex i (D .entries)))
       (λ t q. static-name i name q)
       (λ t q. slot-name (look heldIndex i (D .entries)) (F .entries i) name q)
       e
@@ -80,7 +79,7 @@ unfolding decoderCall
 forms-call D (read i taken) F f = forms-read D i taken F (f .1)
 forms-call D (block s part rs room) F f =
     block-ways Keeps D (λ a z. F) s part rs room (λ p fs e below turn m fits. forms-finished D F (mark s p (D .finished)))
-forms-call D (ended s) F f = end-ways Keeps D (λ a z. F) s (λ below. forms-finished D F (markBoth s (D .finished)))
+forms-call D (close k s) F f = close-ways Keeps D (λ a z. F) k s (λ below. forms-finished D F (closed k s (D .finished)))
 forms-call D (collect room) F f = collect-ways Keeps D (λ a z. F) room (λ e. F) (λ h e fits. forms-free D F h (freed-held D F h e .0))
 forms-call D (hold i) F f = hold-ways Keeps D (λ a z. F) i (λ d e. F)
 forms-call D (unread number) F f = F

@@ -1,89 +1,25 @@
--- The size held, by the calls since the start: what a call puts in or frees is what it adds to or takes from the sum. By the ways of each
--- call, then over the calls, from any state.
+-- The size that the encoder holds, by the calls since the start: what a call puts in or frees is what it adds to or takes from the sum. By the ways
+-- of each call, then over the calls, from any state.
 use mathlib.Core.Path.{_≡_, refl, sym, ap, _∙_}
 use Prim.Native.Nat.{ℕ, _+_}
 use native.Mathlib.Omega.{arith}
-use mathlib.Core.Option.{none, some}
 use mathlib.Core.List.{List, [], _∷_}
 use lib.Dec.{eqb}
 use Rattle.memory.specs.Choice.{pick}
 use Rattle.memory.proofs.Order.{pick-false, pick-both}
-use Rattle.instructions.specs.Instruction.{insert, delete, acknowledge}
 use Rattle.blocks.specs.Representation.{Representation}
 use Rattle.blocks.specs.Meaning.{blockReferences}
-use Rattle.model.specs.Table.{Ascending, size, look, put, cut, total}
+use Rattle.model.specs.Table.{size, look, total}
 use Rattle.model.specs.Parts.{Part, nontrailer, trailer}
 use Rattle.model.specs.Outcome.{Outcome}
-use Rattle.model.specs.Decoder.{Decoder, Held, heldIndex, heldSize, startDecoder, nextFreed, ready, without}
-use Rattle.model.specs.DecoderCalls.{DecoderCall, read, block, ended, collect, hold, unread, decoderCall, afterDecoder}
 use Rattle.model.specs.Encoder.{Encoder, Sent, sentIndex, sentSize, startEncoder, newSent, asDeleted, deleteAt, mentions, referred, refer}
 use Rattle.model.specs.EncoderCalls.{EncoderCall, encoderCall, afterEncoder}
 use Rattle.model.specs.EncoderCalls as at-encoder
-use Rattle.model.specs.History.{sizeHeld, sizeSent, insertedBy, freedBy, added, addedSince, freedSince, sent, acked, sentSince, ackedSince}
-use Rattle.model.proofs.Tables.{pick-eq, pick-yes, look-put, look-index, total-put, total-cut, total-map, lowest-sound}
-use Rattle.model.proofs.DecoderWays as decoder
+use Rattle.model.specs.History.{sizeSent, sent, acked, sentSince, ackedSince}
+use Rattle.model.proofs.Tables.{pick-eq, look-index, total-put, total-cut, total-map}
 use Rattle.model.proofs.EncoderWays as encoder
-use Rattle.model.proofs.Order.{decoder-order, inserts-any, delete-index, refer-index}
+use Rattle.model.proofs.Order.{delete-index, refer-index}
 
--- ---- the decoder
-abbrev heldWeight : Held → ℕ
-heldWeight h = size (h .entry)
-
-held-put : (i : ℕ) (h : Held) (l : List Held) → h .index ≡ i → look heldIndex i l ≡ none
-    → heldSize (put heldIndex h l) ≡ heldSize l + sizeHeld (look heldIndex i (put heldIndex h l))
-unfolding heldSize sizeHeld
-held-put i h l q n =
-    total-put heldIndex heldWeight h l
-    ∙ ap (λ t. total heldIndex heldWeight l + t)
-    (sym (ap sizeHeld (look-put heldIndex i h l (rw q n) ∙ pick-yes (h .index) i (some h) (look heldIndex i l) q)))
-
-held-cut : (i : ℕ) (h : Held) (l : List Held) → look heldIndex i l ≡ some h
-    → heldSize (cut heldIndex i l) + sizeHeld (look heldIndex i l) ≡ heldSize l
-unfolding heldSize sizeHeld
-held-cut i h l e = ap (λ t. total heldIndex heldWeight (cut heldIndex i l) + t) (ap sizeHeld e) ∙ total-cut heldIndex heldWeight i l h e
-
--- an outcome after which the held size has changed by what was put in and freed
-abbrev Balanced : Decoder → ℕ → Outcome Decoder → Type 0
-Balanced D put-in o = heldSize (o .state .entries) + freedBy (o .output) D ≡ heldSize (D .entries) + put-in
-
-held-call : (D : Decoder) (c : DecoderCall) → Ascending heldIndex 0 (D .entries) → Balanced D (added D c) (decoderCall D c)
-unfolding decoderCall added insertedBy freedBy without nextFreed
-held-call D (read (insert i name value) taken) a =
-    decoder.insert-ways (λ o. Balanced D (pick (eqb (o .answer .number) 0) (insertedBy (insert i name value) (o .state)) 0) o) D
-    (λ n e. ap (λ t. heldSize (D .entries) + t) (sym (pick-false (eqb (n .number) 0) _ 0 e))) i name value taken
-    (λ xs e n f g. let p = held-put i (decoder.newHeld i xs value) (D .entries) refl n in omega (arith, p))
-held-call D (read (delete i plain last) taken) a =
-    decoder.delete-ways (λ o. Balanced D (pick (eqb (o .answer .number) 0) 0 0) o) D
-    (λ n e. ap (λ t. heldSize (D .entries) + t) (sym (pick-false (eqb (n .number) 0) 0 0 e))) i plain last taken (λ h e f. refl)
-held-call D (read (acknowledge i) taken) a =
-    decoder.acknowledge-ways (λ o. Balanced D (pick (eqb (o .answer .number) 0) 0 0) o) D
-    (λ n e. ap (λ t. heldSize (D .entries) + t) (sym (pick-false (eqb (n .number) 0) 0 0 e))) i taken
-held-call D (block s part rs room) a = decoder.block-ways (Balanced D 0) D (λ n e. refl) s part rs room (λ p fs e f g h k. refl)
-held-call D (ended s) a = decoder.end-ways (Balanced D 0) D (λ n e. refl) s (λ e. refl)
-held-call D (collect room) a =
-    decoder.collect-ways (Balanced D 0) D (λ n e. refl) room (λ e. refl)
-    (λ h e f.
-    let found = lowest-sound heldIndex (λ h. ready D (h .index)) 0 (D .entries) h a e in
-    let p = held-cut (h .index) h (D .entries) (found .0) in
-    omega (arith, p))
-held-call D (hold i) a = decoder.hold-ways (Balanced D 0) D (λ n e. refl) i (λ d e. refl)
-held-call D (unread number) a = refl
-
-held-calls : (D : Decoder) (cs : List DecoderCall) → Ascending heldIndex 0 (D .entries)
-    → heldSize (afterDecoder D cs .entries) + freedSince D cs ≡ heldSize (D .entries) + addedSince D cs
-unfolding afterDecoder freedSince addedSince
-held-calls D [] a = refl
-held-calls D (c ∷ cs) a =
-    let first = held-call D c a in
-    let rest = held-calls (decoderCall D c .state) cs (decoder-order 0 D c (inserts-any c) a) in
-    omega (arith, first, rest)
-
-pub decoder-held : (limit : ℕ) (cs : List DecoderCall)
-    → heldSize (afterDecoder (startDecoder limit) cs .entries) + freedSince (startDecoder limit) cs ≡ addedSince (startDecoder limit) cs
-unfolding startDecoder heldSize total
-decoder-held limit cs = let all = held-calls (startDecoder limit) cs tt in omega (arith, all)
-
--- ---- the encoder
 abbrev sentWeight : Sent → ℕ
 sentWeight e = size (e .entry)
 

@@ -5,17 +5,19 @@ use mathlib.Core.Logic.{_↔_, _⊎_, inl, inr, ⊎-elim}
 use Prim.Native.Nat.{ℕ, zero, suc, _+_, _≤_, _<_}
 use native.Mathlib.Omega.{arith}
 use mathlib.Core.Bool.{Bool, true, false, _||_}
-use mathlib.Core.Option.{some}
+use mathlib.Core.Option.{Option, none, some}
 use lib.Dec.{eqb, leb}
-use borrow.Author.Tests.{le-leb, eqb-true, eq-eqb}
+use borrow.Author.Tests.{le-leb, eqb-true, eqb-false, eq-eqb}
 use Rattle.memory.proofs.Order.{split, either, pick-both, need-true, not-both}
 use Rattle.integers.specs.Integer.{largest}
 use Rattle.model.specs.Table.{look}
 use Rattle.model.specs.Parts.{Part, nontrailer, trailer, Marks, Delete, isOpen, openBelow, lowestOpen, streams, isReady}
-use Rattle.model.specs.Outcome.{refuse}
+use Rattle.model.specs.Outcome.{Outcome, refuse}
 use Rattle.model.specs.Decoder.{heldIndex, Decoder, deleteOf, isSome, readyDelete, ready, holdOf, enquireHold, FormsDecoder}
 use Rattle.model.specs.DecoderCalls.{hold, decoderCall}
 use Rattle.model.specs.Promises.{HoldTells}
+use Rattle.model.proofs.Tables.{nope}
+use Rattle.model.proofs.DecoderWays.{hold-ways}
 use Rattle.model.proofs.Marks.{closed-marked, open-both}
 use Rattle.model.proofs.Collecting.{delete-held, held-index}
 
@@ -89,3 +91,25 @@ module _ (D : Decoder) (F : FormsDecoder D) (i : ℕ) (d : Delete) (e : deleteOf
             (λ (h : OpenAt (D .finished) d 0 streams (lowestOpen (D .finished) d 0 streams)).
             let b = open-both (D .finished) d (lowestOpen (D .finished) d 0 streams) (h .0) (h .2) in inr (h .0, h .1, b .0, b .1)) (l .there);
       }
+
+-- ---- the enquiry is answered "done" and first tells 0 exactly where the entry is ready
+module _ (D : Decoder) (F : FormsDecoder D) (i : ℕ) where
+  abbrev TellsNone : Outcome Decoder → Type 0
+  TellsNone o = (o .answer .number ≡ 0) × (o .answer .first ≡ 0)
+
+  pub told-ready : TellsNone (decoderCall D (hold i)) → ready D i ≡ true
+  unfolding decoderCall ready readyDelete isReady
+  told-ready =
+      hold-ways (λ o. TellsNone o → ready D i ≡ true) D (λ a z t. absurd (eqb-false (a .number) 0 z (t .0))) i
+      (λ d e t. ap (readyDelete (D .finished)) e ∙ eq-eqb (openBelow (D .finished) d streams) 0 (t .1))
+
+  pub ready-told : ready D i ≡ true → TellsNone (decoderCall D (hold i))
+  unfolding ready readyDelete
+  ready-told r = go (deleteOf D i) refl r
+    where
+      go : (o : Option Delete) → deleteOf D i ≡ o → readyDelete (D .finished) o ≡ true → TellsNone (decoderCall D (hold i))
+      go none e r = nope (cc)
+      go (some d) e t =
+          let T = hold-tells D F i d e in
+          let n = T .none-when-ready .1 (ap (readyDelete (D .finished)) e ∙ t) in
+          (ap (λ (o : Outcome Decoder). o .answer .number) (T .told), ap (λ (o : Outcome Decoder). o .answer .first) (T .told) ∙ n)

@@ -43,23 +43,22 @@ pub mod LinkOffers
 pub mod LinkHeld
 pub mod LinkCalls
 pub mod LinkClaim
--- histories: what is held, and horizons, by the calls since the start
+-- histories: each table, and the encoder's horizons, by what happened since the start
+pub mod HappenedLists
+pub mod DecoderHistory
 pub mod Held
 pub mod Horizons
 pub mod Histories
+pub mod SentHappened
+pub mod SentSums
 -- promises: what each answer says
 pub mod Answers
 pub mod Saying
 pub mod Holding
 pub mod Promises
--- the rules for the link as a test, and closed examples
-pub mod Equality
-pub mod RulesCheck
-pub mod RulesSound
+-- document 01's rules as computed facts
 pub mod Running
 pub mod AcceptanceCalls
 pub mod Acceptance
-pub mod ExampleLife
-pub mod ExampleAccident
 -- the demand
 pub mod Demand

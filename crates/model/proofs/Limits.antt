@@ -9,7 +9,6 @@ use Rattle.model.specs.DecoderCalls as at-decoder
 use Rattle.model.specs.Encoder.{Encoder}
 use Rattle.model.specs.EncoderCalls.{EncoderCall, encoderCall}
 use Rattle.model.specs.EncoderCalls as at-encoder
-use Rattle.model.specs.Events.{read, ended, collect, hold, unread, acknowledged}
 use Rattle.model.proofs.DecoderWays as decoder
 use Rattle.model.proofs.EncoderWays as ways
 use Prim.Native.Nat.{ℕ, _≤_}
@@ -41,7 +40,7 @@ decoder-limit D (at-decoder.read (acknowledge i) taken) =
     decoder.acknowledge-ways (λ o. o .state .limit ≡ D .limit) D (λ a e. refl) i taken
 decoder-limit D (at-decoder.block s part rs room) =
     decoder.block-ways (λ o. o .state .limit ≡ D .limit) D (λ a e. refl) s part rs room (λ p fs e f g h k. refl)
-decoder-limit D (at-decoder.ended s) = decoder.end-ways (λ o. o .state .limit ≡ D .limit) D (λ a e. refl) s (λ e. refl)
+decoder-limit D (at-decoder.close k s) = decoder.close-ways (λ o. o .state .limit ≡ D .limit) D (λ a e. refl) k s (λ e. refl)
 decoder-limit D (at-decoder.collect room) =
     decoder.collect-ways (λ o. o .state .limit ≡ D .limit) D (λ a e. refl) room (λ e. refl) (λ h e f. refl)
 decoder-limit D (at-decoder.hold i) = decoder.hold-ways (λ o. o .state .limit ≡ D .limit) D (λ a e. refl) i (λ d e. refl)

@@ -13,20 +13,21 @@ use Rattle.fields.specs.Form.{Field, AllFine}
 use Rattle.instructions.specs.Instruction.{Instruction, insert, delete, acknowledge, Manages, Fine}
 use Rattle.blocks.specs.Representation.{Representation}
 use Rattle.model.specs.Table.{look, put}
-use Rattle.model.specs.Parts.{partNumber}
+use Rattle.model.specs.Parts.{partNumber, Closing}
 use Rattle.model.specs.Outcome.{Output, nothing, instruction, block, fields, Outcome}
-use Rattle.model.specs.Decoder.{Decoder, heldIndex, isSome, decodeBlock, endStream, collectEntry, FormsDecoder}
+use Rattle.model.specs.Decoder.{Decoder, heldIndex, isSome, decodeBlock, closeParts, collectEntry, FormsDecoder}
 use Rattle.model.specs.DecoderCalls.{DecoderCall, decoderCall}
 use Rattle.model.specs.DecoderCalls as at-decoder
 use Rattle.model.specs.Encoder.{Encoder, sentIndex, newSent, deleteAt, deleteOfSent, FormsEncoder}
 use Rattle.model.specs.EncoderCalls.{EncoderCall, encoderCall}
 use Rattle.model.specs.EncoderCalls as at-encoder
 use Rattle.model.specs.Ready.{FineCall}
-use Rattle.model.specs.Events.{LinkCall, encoder, read, offer, ended, collect, hold, unread, Event, said, wrote, acknowledged, heard, offered}
-use Rattle.model.specs.Events.{freed, told, quiet, Ends, Turn, atDecoder, turn, saidBy, wroteBy, encoderEvent, freedBy, toldBy}
+use Rattle.model.specs.Events.{LinkCall, encoder, decoder, Event, said, wrote, acknowledged, heard, offered}
+use Rattle.model.specs.Events.{freed, told, quiet, Ends, Turn, atDecoder, turn, saidBy, wroteBy, encoderEvent, freedBy, toldBy, decoderEvent}
 use Rattle.model.specs.Events as link
-use Rattle.model.specs.Link.{at, heardIn, Written, writtenIn, heldFrom, heldAfter, Rules, ServedBlock, FineLinkCall}
+use Rattle.model.specs.Link.{at, heardIn, Written, writtenIn, heldFrom, heldAfter, AbstractRules, AbstractServedBlock, FineLinkCall}
 use Rattle.model.proofs.Tables.{asc-weak}
+use Rattle.model.proofs.DecoderWays as at-decoder-ways
 use Rattle.model.proofs.EncoderWays as ways
 use Rattle.model.proofs.Forms.{forms-call}
 use Rattle.model.proofs.FormsSent.{sent-call}
@@ -40,7 +41,7 @@ use Rattle.model.proofs.Linking.{held-append}
 use Rattle.model.proofs.LinkState.{linkOf}
 use Rattle.model.proofs.LinkHistory.{Calm}
 use Rattle.model.proofs.LinkWrites.{Tied, Still, now, quiet-tied, said-tied, wrote-tied, acknowledged-tied}
-use Rattle.model.proofs.LinkReads.{heard-tied, ended-tied, collect-tied}
+use Rattle.model.proofs.LinkReads.{heard-tied, closed-tied, collect-tied}
 use Rattle.model.proofs.LinkOffers.{served, offered-tied}
 use Rattle.model.proofs.Slots.Messages.{noteDelete}
 
@@ -50,15 +51,15 @@ Holds xs (said i) = Unit {0}
 Holds xs (wrote s part fs rs) = Unit {0}
 Holds xs (acknowledged i n) = n ≡ 0
 Holds xs (heard i n) = n ≡ 0
-Holds xs (offered n s part rs room a o) = (w : Written) → at n (writtenIn xs) ≡ some w → ServedBlock xs w a o
+Holds xs (offered n s part rs room a o) = (w : Written) → at n (writtenIn xs) ≡ some w → AbstractServedBlock xs w a o
 Holds xs (freed i) = Unit {0}
-Holds xs (told s) = Unit {0}
+Holds xs (told k s) = Unit {0}
 Holds xs (link.Event.reset s) = Unit {0}
 Holds xs quiet = Unit {0}
 
-told-holds : (xs : List Event) (s : ℕ) (a : Answer) → Holds xs (toldBy s a)
+told-holds : (xs : List Event) (k : Closing) (s : ℕ) (a : Answer) → Holds xs (toldBy k s a)
 unfolding toldBy
-told-holds xs s a = pick-both (λ (e : Event). Holds xs e) (eqb (a .number) 0) (told s) quiet (λ e. tt) (λ e. tt)
+told-holds xs k s a = pick-both (λ (e : Event). Holds xs e) (eqb (a .number) 0) (told k s) quiet (λ e. tt) (λ e. tt)
 
 freed-holds : (xs : List Event) (o : Output) → Holds xs (freedBy o)
 unfolding freedBy
@@ -70,9 +71,9 @@ freed-holds xs (block rs) = tt
 freed-holds xs (fields fs) = tt
 
 -- the n-th block written is one
-served-only : (xs : List Event) (n : ℕ) (w : Written) → at n (writtenIn xs) ≡ some w → (a : Answer) (o : Output) → ServedBlock xs w a o
-    → (v : Written) → at n (writtenIn xs) ≡ some v → ServedBlock xs v a o
-served-only xs n w g a o b v h = let z : w ≡ v = cc in subst (λ (x : Written). ServedBlock xs x a o) z b
+served-only : (xs : List Event) (n : ℕ) (w : Written) → at n (writtenIn xs) ≡ some w → (a : Answer) (o : Output) → AbstractServedBlock xs w a o
+    → (v : Written) → at n (writtenIn xs) ≡ some v → AbstractServedBlock xs v a o
+served-only xs n w g a o b v h = let z : w ≡ v = cc in subst (λ (x : Written). AbstractServedBlock xs x a o) z b
 
 -- ---- the whole invariant
 pub record Linked (xs : List Event) (S : Ends) : Type 0 where
@@ -90,7 +91,7 @@ pub record Kept (xs : List Event) (t : Turn) : Type 0 where
   pub limits : t .ends .encoder .limit ≤ t .ends .decoder .limit
   pub tied : Tied (xs ++ (t .event ∷ [])) (t .ends .encoder) (t .ends .decoder)
 
-module _ (es : List Event) (R : Rules es) (xs ys : List Event) (S : Ends) (K : Linked xs S) where
+module _ (es : List Event) (R : AbstractRules es) (xs ys : List Event) (S : Ends) (K : Linked xs S) where
   abbrev E : Encoder
   E = S .encoder
 
@@ -186,7 +187,11 @@ module _ (es : List Event) (R : Rules es) (xs ys : List Event) (S : Ends) (K : L
         tied = t;
       }
 
-  -- neither end is called, or nothing is written and no state changes
+  -- nothing happened
+  unheard : Tied (xs ++ (quiet ∷ [])) E D
+  unheard = quiet-tied xs E D (K .tied) quiet tt tt
+
+  -- neither end is called
   idle-kept : (x : Event) → Holds xs x → Still x → Calm x → Kept xs (record { ends = S; event = x })
   idle-kept x h s c =
       record {
@@ -198,25 +203,27 @@ module _ (es : List Event) (R : Rules es) (xs ys : List Event) (S : Ends) (K : L
       }
 
   pub kept : (c : LinkCall) → FineLinkCall c → es ≡ xs ++ (turn S c .event ∷ ys) → Kept xs (turn S c)
-  unfolding turn decoderCall
+  unfolding turn decoderCall decoderEvent
   kept (encoder c) f e =
       let t = encoder-kept c f e in
       let l = encoder-limit E c in
       let k = K .limits in
       record { holds = t .0; encoder-forms = sent-call E c (K .encoder-forms); decoder-forms = K .decoder-forms; limits = omega (arith, l, k); tied = t .1 }
-  kept (read i taken) f e =
+  kept (decoder n (at-decoder.read i taken)) f e =
       let h = R .management xs ys i _ e in
       let t = heard-tied xs E D (K .decoder-forms) (K .tied) i taken h in
       decoder-kept (at-decoder.read i taken) (heard i _) (K .tied .management .fine (heardIn xs) i h) (t .0) (t .1)
-  kept (offer n s part rs room) f e =
+  kept (decoder n (at-decoder.block s part rs room)) f e =
       let t = offer-kept n s part rs room e in
       decoder-kept (at-decoder.block s part rs room) (offered n s part rs room _ _) tt (t .0) (t .1)
-  kept (ended s) f e =
-      decoder-kept (at-decoder.ended s) _ tt (told-holds xs s (endStream D s .answer)) (ended-tied xs E D (K .decoder-forms) (K .tied) s)
-  kept (collect room) f e =
+  kept (decoder n (at-decoder.close k s)) f e =
+      decoder-kept (at-decoder.close k s) _ tt (told-holds xs k s (closeParts D k s .answer)) (closed-tied xs E D (K .decoder-forms) (K .tied) k s)
+  kept (decoder n (at-decoder.collect room)) f e =
       decoder-kept (at-decoder.collect room) _ tt (freed-holds xs (collectEntry D room .output)) (collect-tied xs E D (K .decoder-forms) (K .tied) room)
-  kept (hold i) f e = idle-kept quiet tt tt tt
-  kept (unread number) f e = idle-kept quiet tt tt tt
+  kept (decoder n (at-decoder.hold i)) f e =
+      decoder-kept (at-decoder.hold i) quiet tt tt
+      (at-decoder-ways.hold-ways (λ o. Tied (xs ++ (quiet ∷ [])) E (o .state)) D (λ a z. unheard) i (λ d z. unheard))
+  kept (decoder n (at-decoder.unread number)) f e = decoder-kept (at-decoder.unread number) quiet tt tt unheard
   kept (link.LinkCall.reset s) f e = idle-kept (link.Event.reset s) tt tt tt
 
   pub linked-next : (c : LinkCall) → Kept xs (turn S c) → Linked (xs ++ (turn S c .event ∷ [])) (turn S c .ends)

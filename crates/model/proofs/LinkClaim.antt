@@ -9,12 +9,11 @@ use Rattle.model.specs.Table.{look, total}
 use Rattle.model.specs.Decoder.{heldSize, startDecoder}
 use Rattle.model.specs.Encoder.{sentSize, startEncoder}
 use Rattle.model.specs.Events.{LinkCall, Event, acknowledged, heard, offered, Ends, turn, events, fresh}
-use Rattle.model.specs.Link.{at, saidIn, heardIn, freedIn, acknowledgedIn, Written, writtenFrom, heldFrom, Rules, FineLinkCalls, LinkClaim}
+use Rattle.model.specs.Link.{at, saidIn, heardIn, freedIn, acknowledgedIn, Written, writtenFrom, heldFrom, AbstractRules, FineLinkCalls, AbstractLink}
 use Rattle.model.proofs.Tables.{nope}
 use Rattle.model.proofs.Forms.{forms-start}
 use Rattle.model.proofs.FormsSent.{sent-start}
 use Rattle.model.proofs.View.{tablesOf, slotsOf, slotsSent}
-use Rattle.model.proofs.LinkHeld.{empty}
 use Rattle.model.proofs.LinkHistory.{start}
 use Rattle.model.proofs.LinkState.{linkOf, Meant, management-start, acknowledgements-start}
 use Rattle.model.proofs.Slots.Invariant.{Invariant}
@@ -50,7 +49,7 @@ linked-start m n h k = record {
   };
 }
 
-all-hold : (es : List Event) → Rules es → (S : Ends) (cs : List LinkCall) → FineLinkCalls cs → (xs : List Event) → es ≡ xs ++ events S cs → Linked xs S
+all-hold : (es : List Event) → AbstractRules es → (S : Ends) (cs : List LinkCall) → FineLinkCalls cs → (xs : List Event) → es ≡ xs ++ events S cs → Linked xs S
     → (us ys : List Event) (e : Event) → events S cs ≡ us ++ (e ∷ ys) → Holds (xs ++ us) e
 unfolding events
 all-hold es R S [] f xs q K [] ys e z = absurd (nil≢cons z)
@@ -65,7 +64,7 @@ all-hold es R S (c ∷ cs) f xs q K (u ∷ us) ys e z =
     let h = all-hold es R (turn S c .ends) cs (f .1) (xs ++ (x ∷ [])) a (linked-next es R xs [] S K c k) us ys e (tail-eq-of-cons-eq z) in
     subst (λ (l : List Event). Holds l e) (append-assoc xs (x ∷ []) us ∙ ap (λ (y : Event). xs ++ (y ∷ us)) (head-eq-of-cons-eq z)) h
 
-pub link-claim : LinkClaim
+pub link-claim : AbstractLink
 link-claim = record {
   served = λ m n a b h cs f R.
       let es : List Event = events (fresh m n) cs in
@@ -75,5 +74,4 @@ link-claim = record {
         management = λ xs ys i v e. all-hold es R (fresh m n) cs f [] refl K xs ys (heard i v) e;
         acknowledgements = λ xs ys i v e. all-hold es R (fresh m n) cs f [] refl K xs ys (acknowledged i v) e;
       };
-  empty = empty;
 }

@@ -12,19 +12,20 @@ use Rattle.integers.specs.Answers.{Answer}
 use Rattle.instructions.specs.Instruction.{Instruction, insert, delete, acknowledge}
 use Rattle.fields.specs.Form.{Field}
 use Rattle.model.specs.Table.{Ascending, look, put, cut}
+use Rattle.model.specs.Parts.{Closing}
 use Rattle.model.specs.Outcome.{Output, nothing, instruction, block, fields, Outcome}
 use Rattle.model.specs.Decoder.{Decoder, Held, heldIndex, isSome, without, startDecoder}
 use Rattle.model.specs.Encoder.{Encoder}
 use Rattle.model.specs.EncoderCalls.{EncoderCall, encoderCall}
 use Rattle.model.specs.EncoderCalls as at-encoder
 use Rattle.model.specs.DecoderCalls as at-decoder
-use Rattle.model.specs.DecoderCalls.{decoderCall}
-use Rattle.model.specs.Events.{LinkCall, encoder, read, offer, ended, collect, hold, unread, Event, said, wrote, acknowledged, heard, offered}
-use Rattle.model.specs.Events.{freed, told, quiet, Ends, turn, events, endsAfter, fresh, saidBy, wroteBy, encoderEvent, freedBy, toldBy}
+use Rattle.model.specs.DecoderCalls.{DecoderCall, decoderCall}
+use Rattle.model.specs.Events.{LinkCall, encoder, decoder, Event, said, wrote, acknowledged, heard, offered}
+use Rattle.model.specs.Events.{freed, told, quiet, Ends, turn, saidBy, wroteBy, encoderEvent, freedBy, toldBy, decoderEvent}
 use Rattle.model.specs.Events as link
 use Rattle.model.specs.Link.{heldBy, heldFrom, heldAfter}
 use Rattle.model.proofs.Tables.{pick-eq, look-put, look-cut}
-use Rattle.model.proofs.DecoderWays as decoder
+use Rattle.model.proofs.DecoderWays as ways
 use Rattle.model.proofs.Order.{decoder-order, inserts-any}
 
 -- the events one by one
@@ -36,7 +37,7 @@ held-step h (acknowledged j n) es i = refl
 held-step h (heard j n) es i = refl
 held-step h (offered n s part rs room a o) es i = refl
 held-step h (freed j) es i = refl
-held-step h (told s) es i = refl
+held-step h (told k s) es i = refl
 held-step h (link.Event.reset s) es i = refl
 held-step h quiet es i = refl
 
@@ -63,9 +64,9 @@ encoder-keeps h (at-encoder.block s part fs room) o i = wrote-keeps h s part fs 
 encoder-keeps h (at-encoder.acknowledged j taken) o i = refl
 encoder-keeps h (at-encoder.unread number) o i = refl
 
-told-keeps : (h : Bool) (s : ℕ) (a : Answer) (i : ℕ) → heldFrom h (toldBy s a ∷ []) i ≡ h
+told-keeps : (h : Bool) (k : Closing) (s : ℕ) (a : Answer) (i : ℕ) → heldFrom h (toldBy k s a ∷ []) i ≡ h
 unfolding toldBy heldFrom
-told-keeps h s a i = pick-both (λ (e : Event). heldFrom h (e ∷ []) i ≡ h) (eqb (a .number) 0) (told s) quiet (λ q. refl) (λ q. refl)
+told-keeps h k s a i = pick-both (λ (e : Event). heldFrom h (e ∷ []) i ≡ h) (eqb (a .number) 0) (told k s) quiet (λ q. refl) (λ q. refl)
 
 -- ---- a call at the decoder: what it held, what it holds
 abbrev holds : ℕ → Decoder → Bool
@@ -101,56 +102,32 @@ read-holds : (D : Decoder) (j : Instruction) (taken i : ℕ)
     → heldBy j (decoderCall D (at-decoder.read j taken) .answer .number) i (holds i D) ≡ holds i (decoderCall D (at-decoder.read j taken) .state)
 unfolding decoderCall
 read-holds D (insert j name value) taken i =
-    decoder.insert-ways (λ o. heldBy (insert j name value) (o .answer .number) i (holds i D) ≡ holds i (o .state)) D
+    ways.insert-ways (λ o. heldBy (insert j name value) (o .answer .number) i (holds i D) ≡ holds i (o .state)) D
     (λ a e. refused-keeps (insert j name value) (a .number) i (holds i D) e) j name value taken
-    (λ xs e n f g. put-holds i (decoder.newHeld j xs value) (D .entries) n)
+    (λ xs e n f g. put-holds i (ways.newHeld j xs value) (D .entries) n)
 read-holds D (delete j plain last) taken i =
-    decoder.delete-ways (λ o. holds i D ≡ holds i (o .state)) D (λ a e. refl) j plain last taken (λ h e f. refl)
-read-holds D (acknowledge j) taken i = decoder.acknowledge-ways (λ o. holds i D ≡ holds i (o .state)) D (λ a e. refl) j taken
+    ways.delete-ways (λ o. holds i D ≡ holds i (o .state)) D (λ a e. refl) j plain last taken (λ h e f. refl)
+read-holds D (acknowledge j) taken i = ways.acknowledge-ways (λ o. holds i D ≡ holds i (o .state)) D (λ a e. refl) j taken
 
 -- ---- one call, then all
+call-holds : (D : Decoder) (n : ℕ) (c : DecoderCall) (i : ℕ) → Ascending heldIndex 0 (D .entries)
+    → heldFrom (holds i D) (decoderEvent n c (decoderCall D c) ∷ []) i ≡ holds i (decoderCall D c .state)
+unfolding heldFrom decoderEvent decoderCall freedBy without
+call-holds D n (at-decoder.read j taken) i a = read-holds D j taken i
+call-holds D n (at-decoder.block s part rs room) i a =
+    ways.block-ways (λ o. holds i D ≡ holds i (o .state)) D (λ b e. refl) s part rs room (λ p fs e f g h k. refl)
+call-holds D n (at-decoder.close k s) i a =
+    ways.close-ways (λ o. heldFrom (holds i D) (toldBy k s (o .answer) ∷ []) i ≡ holds i (o .state)) D
+    (λ b e. told-keeps (holds i D) k s b i) k s (λ e. told-keeps (holds i D) k s _ i)
+call-holds D n (at-decoder.collect room) i a =
+    ways.collect-ways (λ o. heldFrom (holds i D) (freedBy (o .output) ∷ []) i ≡ holds i (o .state)) D
+    (λ b e. refl) room (λ e. refl) (λ h e f. cut-holds i (h .index) (D .entries) a)
+call-holds D n (at-decoder.hold j) i a = ways.hold-ways (λ o. holds i D ≡ holds i (o .state)) D (λ b e. refl) j (λ d e. refl)
+call-holds D n (at-decoder.unread number) i a = refl
+
 pub turn-holds : (S : Ends) (c : LinkCall) (i : ℕ) → Ascending heldIndex 0 (S .decoder .entries)
     → heldFrom (holds i (S .decoder)) (turn S c .event ∷ []) i ≡ holds i (turn S c .ends .decoder)
-unfolding turn heldFrom decoderCall freedBy without
+unfolding turn heldFrom
 turn-holds S (encoder c) i a = encoder-keeps (holds i (S .decoder)) c (encoderCall (S .encoder) c) i
-turn-holds S (read j taken) i a = read-holds (S .decoder) j taken i
-turn-holds S (offer n s part rs room) i a =
-    decoder.block-ways (λ o. holds i (S .decoder) ≡ holds i (o .state)) (S .decoder) (λ b e. refl) s part rs room (λ p fs e f g h k. refl)
-turn-holds S (ended s) i a =
-    decoder.end-ways (λ o. heldFrom (holds i (S .decoder)) (toldBy s (o .answer) ∷ []) i ≡ holds i (o .state)) (S .decoder)
-    (λ b e. told-keeps (holds i (S .decoder)) s b i) s (λ e. told-keeps (holds i (S .decoder)) s _ i)
-turn-holds S (collect room) i a =
-    decoder.collect-ways (λ o. heldFrom (holds i (S .decoder)) (freedBy (o .output) ∷ []) i ≡ holds i (o .state)) (S .decoder)
-    (λ b e. refl) room (λ e. refl) (λ h e f. cut-holds i (h .index) (S .decoder .entries) a)
-turn-holds S (hold j) i a = refl
-turn-holds S (unread number) i a = refl
+turn-holds S (decoder n c) i a = call-holds (S .decoder) n c i a
 turn-holds S (link.LinkCall.reset s) i a = refl
-
-order-any : (D : Decoder) (c : at-decoder.DecoderCall) → Ascending heldIndex 0 (D .entries) → Ascending heldIndex 0 (decoderCall D c .state .entries)
-order-any D c a = decoder-order 0 D c (inserts-any c) a
-
-pub turn-order : (S : Ends) (c : LinkCall) → Ascending heldIndex 0 (S .decoder .entries) → Ascending heldIndex 0 (turn S c .ends .decoder .entries)
-unfolding turn decoderCall
-turn-order S (encoder c) a = a
-turn-order S (read j taken) a = order-any (S .decoder) (at-decoder.read j taken) a
-turn-order S (offer n s part rs room) a = order-any (S .decoder) (at-decoder.block s part rs room) a
-turn-order S (ended s) a = order-any (S .decoder) (at-decoder.ended s) a
-turn-order S (collect room) a = order-any (S .decoder) (at-decoder.collect room) a
-turn-order S (hold j) a = a
-turn-order S (unread number) a = a
-turn-order S (link.LinkCall.reset s) a = a
-
-held-from : (S : Ends) (cs : List LinkCall) (i : ℕ) → Ascending heldIndex 0 (S .decoder .entries)
-    → heldFrom (holds i (S .decoder)) (events S cs) i ≡ holds i (endsAfter S cs .decoder)
-unfolding events endsAfter heldFrom
-held-from S [] i a = refl
-held-from S (c ∷ cs) i a =
-    held-step (holds i (S .decoder)) (turn S c .event) (events (turn S c .ends) cs) i
-    ∙ ap (λ (h : Bool). heldFrom h (events (turn S c .ends) cs) i) (turn-holds S c i a)
-    ∙ held-from (turn S c .ends) cs i (turn-order S c a)
-
-pub empty : (encoderLimit decoderLimit : ℕ) (cs : List LinkCall) (i : ℕ)
-    → heldAfter (events (fresh encoderLimit decoderLimit) cs) i
-    ≡ isSome (look heldIndex i (endsAfter (fresh encoderLimit decoderLimit) cs .decoder .entries))
-unfolding fresh startDecoder look
-empty encoderLimit decoderLimit cs i = held-from (fresh encoderLimit decoderLimit) cs i tt

@@ -10,7 +10,7 @@ use lib.ListN.{length}
 use Rattle.integers.specs.Answers.{Answer}
 use Rattle.fields.specs.Form.{Field}
 use Rattle.blocks.specs.Representation.{Representation}
-use Rattle.model.specs.Parts.{Part, partNumber, Marks, noMarks, mark, markBoth, streams}
+use Rattle.model.specs.Parts.{Part, partNumber, Marks, noMarks, mark, markBoth, Closing, ended, closed, streams}
 use Rattle.model.specs.Outcome.{Output}
 use Rattle.model.specs.Events.{Event, said, wrote, acknowledged, heard, offered, freed, told, quiet}
 use Rattle.model.specs.Events as link
@@ -43,7 +43,7 @@ pub record Marked (w : Written) (marks : Marks) : Type 0 where
 
 pub record History (xs : List Event) (finished written : Marks) : Type 0 where
   -- a finished part: its block was answered "done", or its stream was told as ended
-  pub why : (s : ℕ) (p : Part) → finished s p ≡ true → Cause xs s p ⊎ List·Memᴰ (told s) xs
+  pub why : (s : ℕ) (p : Part) → finished s p ≡ true → Cause xs s p ⊎ List·Memᴰ (told ended s) xs
   pub shut : (n : ℕ) → Accepted n xs → Finished n xs finished
   pub marked : (n : ℕ) (w : Written) → at n (writtenIn xs) ≡ some w → Marked w written
   pub once : (n m : ℕ) (w v : Written) → at n (writtenIn xs) ≡ some w → at m (writtenIn xs) ≡ some v
@@ -60,7 +60,7 @@ start = record { why = λ s p h. nope (cc); shut = λ n d. absurd (none-in (d .w
 pub found-more : (n : ℕ) (xs ys : List Event) (w : Written) → at n (writtenIn xs) ≡ some w → at n (writtenIn (xs ++ ys)) ≡ some w
 found-more n xs ys w h = ap (at n) (written-append xs ys) ∙ at-left n (writtenIn xs) _ w h
 
-cause-more : (xs ys : List Event) (s : ℕ) (p : Part) → Cause xs s p ⊎ List·Memᴰ (told s) xs → Cause (xs ++ ys) s p ⊎ List·Memᴰ (told s) (xs ++ ys)
+cause-more : (xs ys : List Event) (s : ℕ) (p : Part) → Cause xs s p ⊎ List·Memᴰ (told ended s) xs → Cause (xs ++ ys) s p ⊎ List·Memᴰ (told ended s) (xs ++ ys)
 cause-more xs ys s p (inl c) =
     inl (record {
       place = c .place;
@@ -90,7 +90,7 @@ Calm (acknowledged i n) = Unit {0}
 Calm (heard i n) = Unit {0}
 Calm (offered n s part rs room a o) = a .number ≡ 0 → ⊥
 Calm (freed i) = Unit {0}
-Calm (told s) = Unit {0}
+Calm (told c s) = Unit {0}
 Calm (link.Event.reset s) = Unit {0}
 Calm quiet = Unit {0}
 
@@ -102,7 +102,7 @@ calm-written (acknowledged i n) k c = refl
 calm-written (heard i n) k c = refl
 calm-written (offered n s part rs room a o) k c = refl
 calm-written (freed i) k c = refl
-calm-written (told s) k c = refl
+calm-written (told x s) k c = refl
 calm-written (link.Event.reset s) k c = refl
 calm-written quiet k c = refl
 
@@ -114,7 +114,7 @@ calm-accepts (heard i m) n c d = let z = d .is in nope (cc)
 calm-accepts (offered m s part rs room a o) n c d =
     let z = d .is in let y : d .answer ≡ a = cc in c (ap (λ (t : Answer). t .number) (sym y) ∙ d .done)
 calm-accepts (freed i) n c d = let z = d .is in nope (cc)
-calm-accepts (told s) n c d = let z = d .is in nope (cc)
+calm-accepts (told x s) n c d = let z = d .is in nope (cc)
 calm-accepts (link.Event.reset s) n c d = let z = d .is in nope (cc)
 calm-accepts quiet n c d = let z = d .is in nope (cc)
 
@@ -123,7 +123,7 @@ calm-same xs e c =
     written-append xs (e ∷ []) ∙ ap (λ (l : List Written). writtenIn xs ++ l) (calm-written e (length (saidIn xs)) c) ∙ append-nil (writtenIn xs)
 
 pub calm-history : (xs : List Event) (e : Event) (f g w : Marks) → Calm e
-    → ((s : ℕ) (p : Part) → g s p ≡ true → (f s p ≡ true) ⊎ List·Memᴰ (told s) (e ∷ [])) → ((s : ℕ) (p : Part) → f s p ≡ true → g s p ≡ true)
+    → ((s : ℕ) (p : Part) → g s p ≡ true → (f s p ≡ true) ⊎ List·Memᴰ (told ended s) (e ∷ [])) → ((s : ℕ) (p : Part) → f s p ≡ true → g s p ≡ true)
     → History xs f w → History (xs ++ (e ∷ [])) g w
 calm-history xs e f g w c from more H = record {
   why = λ s p h. because s p (from s p h);
@@ -135,7 +135,7 @@ calm-history xs e f g w c from more H = record {
     same : (n : ℕ) (b : Written) → at n (writtenIn (xs ++ (e ∷ []))) ≡ some b → at n (writtenIn xs) ≡ some b
     same n b h = ap (at n) (sym (calm-same xs e c)) ∙ h
 
-    because : (s : ℕ) (p : Part) → (f s p ≡ true) ⊎ List·Memᴰ (told s) (e ∷ []) → Cause (xs ++ (e ∷ [])) s p ⊎ List·Memᴰ (told s) (xs ++ (e ∷ []))
+    because : (s : ℕ) (p : Part) → (f s p ≡ true) ⊎ List·Memᴰ (told ended s) (e ∷ []) → Cause (xs ++ (e ∷ [])) s p ⊎ List·Memᴰ (told ended s) (xs ++ (e ∷ []))
     because s p (inl h) = cause-more xs (e ∷ []) s p (H .why s p h)
     because s p (inr m) = inr (Memᴰ·append-right xs m)
 
@@ -146,12 +146,12 @@ calm-history xs e f g w c from more H = record {
 pub quiet-history : (xs : List Event) (e : Event) (f w : Marks) → Calm e → History xs f w → History (xs ++ (e ∷ [])) f w
 quiet-history xs e f w c H = calm-history xs e f f w c (λ s p h. inl h) (λ s p h. h) H
 
-pub told-history : (xs : List Event) (s : ℕ) (f w : Marks) → History xs f w → History (xs ++ (told s ∷ [])) (markBoth s f) w
-told-history xs s f w H = calm-history xs (told s) f (markBoth s f) w tt (λ t p h. go t (both-from s f t p h)) (λ t p h. both-keeps s f t p h) H
+pub told-history : (xs : List Event) (k : Closing) (s : ℕ) (f w : Marks) → History xs f w → History (xs ++ (told k s ∷ [])) (closed k s f) w
+told-history xs ended s f w H = calm-history xs (told ended s) f (markBoth s f) w tt (λ t p h. go t (both-from s f t p h)) (λ t p h. both-keeps s f t p h) H
   where
-    go : (t : ℕ) {p : Part} → (f t p ≡ true) ⊎ (s ≡ t) → (f t p ≡ true) ⊎ List·Memᴰ (told t) (told s ∷ [])
+    go : (t : ℕ) {p : Part} → (f t p ≡ true) ⊎ (s ≡ t) → (f t p ≡ true) ⊎ List·Memᴰ (told ended t) (told ended s ∷ [])
     go t (inl h) = inl h
-    go t (inr e) = inr (List·Memᴰ·head (ap told (sym e)))
+    go t (inr e) = inr (List·Memᴰ·head (ap (told ended) (sym e)))
 
 -- ---- a block answered "done"
 pub accept-history : (xs : List Event) (n s : ℕ) (p : Part) (part : ℕ) (rs : List Representation) (room : ℕ) (a : Answer) (o : Output)
@@ -174,7 +174,7 @@ accept-history xs n s p part rs room a o f w b found st pt zero! H = record {
     now : Accepted n (xs ++ (e ∷ []))
     now = record { stream = s; part = part; says = rs; room = room; answer = a; output = o; done = zero!; when = Memᴰ·append-right xs (List·Memᴰ·head refl) }
 
-    because : (t : ℕ) (q : Part) → (f t q ≡ true) ⊎ ((s ≡ t) × (p ≡ q)) → Cause (xs ++ (e ∷ [])) t q ⊎ List·Memᴰ (told t) (xs ++ (e ∷ []))
+    because : (t : ℕ) (q : Part) → (f t q ≡ true) ⊎ ((s ≡ t) × (p ≡ q)) → Cause (xs ++ (e ∷ [])) t q ⊎ List·Memᴰ (told ended t) (xs ++ (e ∷ []))
     because t q (inl h) = cause-more xs (e ∷ []) t q (H .why t q h)
     because t q (inr h) =
         inl (record { place = n; block = b; found = found-more n xs (e ∷ []) b found; stream = st ∙ h .0; part = pt ∙ ap partNumber (h .1); was = now })

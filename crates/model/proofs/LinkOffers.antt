@@ -18,7 +18,7 @@ use Rattle.model.specs.Outcome.{fields, Outcome}
 use Rattle.model.specs.Decoder.{Decoder, heldIndex, isSome, withFinished, decodeBlock}
 use Rattle.model.specs.Encoder.{Encoder}
 use Rattle.model.specs.Events.{Event, offered}
-use Rattle.model.specs.Link.{at, saidIn, heardIn, Written, writtenIn, heldAfter, Rules, ServedBlock}
+use Rattle.model.specs.Link.{at, saidIn, heardIn, Written, writtenIn, heldAfter, AbstractRules, AbstractServedBlock}
 use Rattle.model.proofs.DecoderWays as decoder
 use Rattle.model.proofs.LinkHistory.{accept-history}
 use Rattle.model.proofs.Marks.{part-number, number-same, part-back, mark-keeps}
@@ -31,7 +31,7 @@ use Rattle.model.proofs.BlockView.{BlockAgrees, block-agrees, refers-it
 use Rattle.model.proofs.Slots.Machine.{BlockAnswer, gives, waitsFor, outOfTurn, Item}
 use Rattle.model.proofs.Slots.Machine as machine
 use Rattle.model.proofs.Slots.Invariant.{asItems, fieldsOf, WrittenBlock}
-use Rattle.model.proofs.Slots.Freeing.{withDecoder, withMarks, marks-invariant}
+use Rattle.model.proofs.Slots.Freeing.{marks-invariant}
 use Rattle.model.proofs.Slots.Serving.{block-conclusions}
 use Rattle.model.proofs.Slots.Serving as serving
 
@@ -47,7 +47,7 @@ decoded D s p rs room =
     let z : p ≡ q = number-same p q (part-number (partNumber p) q e) in
     accepted refl (ap (λ (t : Part). withFinished D (mark s t (D .finished))) (sym z)))
 
-module _ (es : List Event) (R : Rules es) (xs ys : List Event) (E : Encoder) (D : Decoder) (T : Tied xs E D)
+module _ (es : List Event) (R : AbstractRules es) (xs ys : List Event) (E : Encoder) (D : Decoder) (T : Tied xs E D)
     (vacancies : (i : ℕ) → heldAfter xs i ≡ isSome (look heldIndex i (D .entries))) (n : ℕ) (w : Written) (found : at n (writtenIn xs) ≡ some w)
     (M : Meant w (T .blocks)) (room : ℕ) (enough : length (listForm (w .fields)) ≤ room) where
   abbrev b : WrittenBlock
@@ -104,7 +104,7 @@ module _ (es : List Event) (R : Rules es) (xs ys : List Event) (E : Encoder) (D 
     waits-then (gives fs) h z = let y = agrees .done fs h .0 in absurd (omega (arith, y, z))
     waits-then (waitsFor i) h z =
         let x = conclusions .waits .0 (record { slot = i; equal = h }) in
-        let r = refers-back (w .says) (x .0) (subst (λ (l : List Item). machine.NamesSlot (x .0) l) (M .says) (x .1 .refers)) in
+        let r = refers-back (w .says) (M .fine) (x .0) (subst (λ (l : List Item). machine.NamesSlot (x .0) l) (M .says) (x .1 .refers)) in
         (x .0, r .0, r .1, vacancies (x .0) ∙ vacant-back D (x .0) (x .1 .empty))
     waits-then outOfTurn h z = absurd (conclusions .no-fault h)
 
@@ -116,7 +116,7 @@ module _ (es : List Event) (R : Rules es) (xs ys : List Event) (E : Encoder) (D 
         let y = conclusions .waits .1 (x .0, record { refers = r; empty = v }) in
         agrees .wait (y .slot) (y .equal)
 
-    pub served : ServedBlock xs w (o .answer) (o .output)
+    pub served : AbstractServedBlock xs w (o .answer) (o .output)
     unfolding linkOf
     served = record {
       no-fault = no-fault answer refl;
@@ -129,7 +129,7 @@ module _ (es : List Event) (R : Rules es) (xs ys : List Event) (E : Encoder) (D 
 
   -- the invariant after it
   pub offered-tied : Tied (xs ++ (offered n (b .place .stream) (partNumber (b .place .part)) (w .says) room (o .answer) (o .output) ∷ [])) E (o .state)
-  unfolding linkOf tablesOf slotsOf withDecoder withMarks
+  unfolding linkOf tablesOf slotsOf
   offered-tied = go (decoded D (b .place .stream) (b .place .part) (w .says) room)
     where
       go : Decoded D (b .place .stream) (b .place .part) o

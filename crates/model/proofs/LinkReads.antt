@@ -6,18 +6,17 @@ use native.Mathlib.Omega.{arith}
 use mathlib.Core.Bool.{Bool}
 use mathlib.Core.Option.{some}
 use mathlib.Core.List.{List, [], _∷_, _++_, append-nil}
-use lib.ListN.{length}
 use Rattle.memory.specs.Choice.{pick}
 use Rattle.instructions.specs.Instruction.{Instruction, Manages}
-use Rattle.model.specs.Parts.{Marks, markBoth}
-use Rattle.model.specs.Decoder.{Decoder, Held, readInstruction, endStream, withFinished, nextFreed, without, collectEntry, FormsDecoder}
+use Rattle.model.specs.Parts.{Marks, Closing, closed}
+use Rattle.model.specs.Decoder.{Decoder, Held, readInstruction, closeParts, withFinished, nextFreed, without, collectEntry, FormsDecoder}
 use Rattle.model.specs.Encoder.{Encoder}
 use Rattle.model.specs.Events.{Event, heard, freed, told, quiet, freedBy, toldBy}
 use Rattle.model.specs.Link.{at, saidIn, heardIn, freedIn, acknowledgedIn, writtenFrom, writtenIn}
 use Rattle.model.proofs.DecoderWays as decoder
 use Rattle.model.proofs.Linking.{said-append, heard-append, freed-append, acknowledged-append, written-append}
 use Rattle.model.proofs.LinkHistory.{History, quiet-history, told-history}
-use Rattle.model.proofs.Marks.{both-keeps}
+use Rattle.model.proofs.Marks.{closed-keeps}
 use Rattle.model.proofs.LinkState.{linkOf, management-next, acknowledgements-freed}
 use Rattle.model.proofs.LinkWrites.{Tied, now, still-tied, quiet-tied}
 use Rattle.model.proofs.View.{tablesOf, slotsOf, slotInstruction}
@@ -25,8 +24,8 @@ use Rattle.model.proofs.ReadView.{read-agrees}
 use Rattle.model.proofs.CollectView.{collect-view}
 use Rattle.model.proofs.Slots.Machine.{DecoderTables}
 use Rattle.model.proofs.Slots.Machine as machine
-use Rattle.model.proofs.Slots.Invariant.{Invariant}
-use Rattle.model.proofs.Slots.Freeing.{withDecoder, withMarks, marks-invariant, afterCollect, collect-invariant}
+use Rattle.model.proofs.Slots.Invariant.{withDecoder, withAcks, Invariant}
+use Rattle.model.proofs.Slots.Freeing.{marks-invariant, afterCollect, collect-invariant}
 use Rattle.model.proofs.Slots.Reading.{afterRead, read-next}
 
 module _ (xs : List Event) (E : Encoder) (D : Decoder) (F : FormsDecoder D) (T : Tied xs E D) where
@@ -64,29 +63,19 @@ module _ (xs : List Event) (E : Encoder) (D : Decoder) (F : FormsDecoder D) (T :
               meant = rw u (T .meant);
               invariant =
                   rw a
-                  (subst
-                  (λ (k : DecoderTables). Invariant (record {
-                    encoderSlots = now xs E D T .encoderSlots;
-                    encoderFilled = now xs E D T .encoderFilled;
-                    decoder = k;
-                    writtenCount = length (saidIn xs);
-                    unread = N .rest;
-                    unreadAcks = T .unreadAcks;
-                    blocks = T .blocks;
-                  }))
-                  (sym v) (t .invariant));
+                  (subst (λ (k : DecoderTables). Invariant (afterRead (now xs E D T) k (N .rest))) (sym v) (t .invariant));
             }),
       )
 
-  -- ---- a stream told as ended, or the call refused
-  pub ended-tied : (s : ℕ) → Tied (xs ++ (toldBy s (endStream D s .answer) ∷ [])) E (endStream D s .state)
-  unfolding toldBy linkOf tablesOf slotsOf withDecoder withMarks
-  ended-tied s =
-      decoder.end-ways (λ o. Tied (xs ++ (toldBy s (o .answer) ∷ [])) E (o .state)) D
-      (λ a e. subst (λ (b : Bool). Tied (xs ++ (pick b (told s) quiet ∷ [])) E D) (sym e) (quiet-tied xs E D T quiet tt tt)) s
-      (λ low. still-tied xs E D T (told s) tt (withFinished D (markBoth s (D .finished)))
-      (told-history xs s (D .finished) (E .written) (T .history))
-      (marks-invariant (now xs E D T) (markBoth s (D .finished)) (λ q h. both-keeps s (D .finished) (q .stream) (q .part) h) (T .invariant)))
+  -- ---- parts of a stream closed, or the call refused
+  pub closed-tied : (k : Closing) (s : ℕ) → Tied (xs ++ (toldBy k s (closeParts D k s .answer) ∷ [])) E (closeParts D k s .state)
+  unfolding toldBy linkOf tablesOf slotsOf
+  closed-tied k s =
+      decoder.close-ways (λ o. Tied (xs ++ (toldBy k s (o .answer) ∷ [])) E (o .state)) D
+      (λ a e. subst (λ (b : Bool). Tied (xs ++ (pick b (told k s) quiet ∷ [])) E D) (sym e) (quiet-tied xs E D T quiet tt tt)) k s
+      (λ low. still-tied xs E D T (told k s) tt (withFinished D (closed k s (D .finished)))
+      (told-history xs k s (D .finished) (E .written) (T .history))
+      (marks-invariant (now xs E D T) (closed k s (D .finished)) (λ q h. closed-keeps k s (D .finished) (q .stream) (q .part) h) (T .invariant)))
 
   -- ---- a collect: an entry was freed, or nothing happened
   free-tied : (h : Held) → nextFreed D ≡ some h → Tied (xs ++ (freed (h .index) ∷ [])) E (without D (h .index))
@@ -113,15 +102,7 @@ module _ (xs : List Event) (E : Encoder) (D : Decoder) (F : FormsDecoder D) (T :
         invariant =
             rw a
             (subst
-            (λ (k : DecoderTables). Invariant (record {
-              encoderSlots = now xs E D T .encoderSlots;
-              encoderFilled = now xs E D T .encoderFilled;
-              decoder = k;
-              writtenCount = length (saidIn xs);
-              unread = T .unread;
-              unreadAcks = T .unreadAcks ++ (record { slot = h .index; entry = h .entry } ∷ []);
-              blocks = T .blocks;
-            }))
+            (λ (k : DecoderTables). Invariant (withAcks (withDecoder (now xs E D T) k) (T .unreadAcks ++ (record { slot = h .index; entry = h .entry } ∷ []))))
             (sym (C .view)) (collect-invariant (now xs E D T) (h .index) (h .entry) (C .lists) (C .was) (C .all) (C .fits) (T .invariant)));
       }
 

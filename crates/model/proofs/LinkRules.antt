@@ -8,34 +8,34 @@ use mathlib.Core.Option.{some}
 use mathlib.Core.List.{List, _∷_, _++_, append-assoc, List·Memᴰ, Memᴰ·append-left}
 use Rattle.integers.specs.Answers.{Answer}
 use Rattle.blocks.specs.Representation.{Representation}
-use Rattle.model.specs.Parts.{Part, nontrailer, trailer, partNumber, Marks, inTurn}
+use Rattle.model.specs.Parts.{ended, Part, nontrailer, trailer, partNumber, Marks, inTurn}
 use Rattle.model.specs.Outcome.{Output}
 use Rattle.model.specs.Events.{Event, offered, told}
 use Rattle.model.specs.Events as link
-use Rattle.model.specs.Link.{at, Written, writtenIn, Accepted, Rules}
+use Rattle.model.specs.Link.{at, Written, writtenIn, Accepted, AbstractRules}
 use Rattle.model.proofs.Linking.{accepted-more, Place, place}
 use Rattle.model.proofs.LinkHistory.{History, Cause, found-more}
 use Rattle.model.proofs.Marks.{number-same}
 
-module _ (es : List Event) (R : Rules es) (xs ys : List Event) (n s : ℕ) (p : Part) (rs : List Representation) (room : ℕ) (a : Answer) (o : Output)
+module _ (es : List Event) (R : AbstractRules es) (xs ys : List Event) (n s : ℕ) (p : Part) (rs : List Representation) (room : ℕ) (a : Answer) (o : Output)
     (e : es ≡ xs ++ (offered n s (partNumber p) rs room a o ∷ ys)) (b : Written) (found : at n (writtenIn xs) ≡ some b) (st : b .stream ≡ s)
     (pt : b .part ≡ partNumber p) (f w : Marks) (H : History xs f w) where
   pub unfinished : f s p ≡ false
   unfinished = go (f s p) refl
     where
-      ended-before : (P : Place (told s) xs)
+      ended-before : (P : Place (told ended s) xs)
           → ((m : ℕ) (v : Written) → at m (writtenIn es) ≡ some v → v .stream ≡ s → Accepted m (P .pre)) ⊎ List·Memᴰ (link.Event.reset s) (P .pre) → ⊥
       ended-before P (inl g) =
           let d = g n b (rw e (found-more n xs _ b found)) st in
           R .once xs ys n s (partNumber p) rs room a o e (rw (P .eq) (accepted-more n (P .pre) _ d))
       ended-before P (inr r) = R .resets xs ys n s (partNumber p) rs room a o e (rw (P .eq) (Memᴰ·append-left _ r))
 
-      never : Cause xs s p ⊎ List·Memᴰ (told s) xs → ⊥
+      never : Cause xs s p ⊎ List·Memᴰ (told ended s) xs → ⊥
       never (inl c) =
           let k = H .once (c .place) n (c .block) b (c .found) found (c .stream ∙ sym st) (c .part ∙ sym pt) in
           R .once xs ys n s (partNumber p) rs room a o e (subst (λ (m : ℕ). Accepted m xs) k (c .was))
       never (inr t) =
-          let P = place (told s) xs t in
+          let P = place (told ended s) xs t in
           ended-before P (R .ends (P .pre) (P .post ++ (offered n s (partNumber p) rs room a o ∷ ys)) s
           (e ∙ ap (λ (l : List Event). l ++ (offered n s (partNumber p) rs room a o ∷ ys)) (P .eq) ∙ append-assoc (P .pre) _ _))
 
@@ -43,7 +43,7 @@ module _ (es : List Event) (R : Rules es) (xs ys : List Event) (n s : ℕ) (p : 
       go true h = absurd (never (H .why s p h))
       go false h = h
 
-module _ (es : List Event) (R : Rules es) (xs ys : List Event) (n s : ℕ) (rs : List Representation) (room : ℕ) (a : Answer) (o : Output)
+module _ (es : List Event) (R : AbstractRules es) (xs ys : List Event) (n s : ℕ) (rs : List Representation) (room : ℕ) (a : Answer) (o : Output)
     (f w : Marks) (H : History xs f w) where
   -- a trailer's non-trailer block was answered "done"
   first-finished : es ≡ xs ++ (offered n s 1 rs room a o ∷ ys) → f s nontrailer ≡ true

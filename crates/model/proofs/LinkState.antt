@@ -8,6 +8,7 @@ use mathlib.Core.Option.{some}
 use mathlib.Core.List.{List, [], _∷_, _++_, map, List·Memᴰ, List·Memᴰ·head, List·Memᴰ·tail}
 use lib.ListN.{length, drop, length-append, length-drop}
 use Rattle.instructions.specs.Instruction.{Instruction, Manages, Fine}
+use Rattle.blocks.specs.Representation.{AllFine}
 use Rattle.model.specs.Parts.{partNumber}
 use Rattle.model.specs.Decoder.{Decoder}
 use Rattle.model.specs.Encoder.{Encoder, sentSize}
@@ -148,6 +149,7 @@ pub record Meant (w : Written) (bs : List WrittenBlock) : Type 0 where
   pub there : List·Memᴰ blk bs
   pub stream : blk .place .stream ≡ w .stream
   pub part : partNumber (blk .place .part) ≡ w .part
+  pub fine : AllFine (w .says)
   pub says : asItems (blk .items) ≡ slotItems (w .says)
   pub gives : fieldsOf (blk .items) ≡ w .fields
   pub before : blk .before ≡ w .before
@@ -156,14 +158,14 @@ abbrev pub AllMeant : List Written → List WrittenBlock → Type 0
 AllMeant ws bs = (n : ℕ) (w : Written) → at n ws ≡ some w → Meant w bs
 
 pub meant-wrote : (ws : List Written) (bs : List WrittenBlock) (w : Written) (b : WrittenBlock) → b .place .stream ≡ w .stream
-    → partNumber (b .place .part) ≡ w .part
+    → partNumber (b .place .part) ≡ w .part → AllFine (w .says)
     → asItems (b .items) ≡ slotItems (w .says) → fieldsOf (b .items) ≡ w .fields → b .before ≡ w .before → AllMeant ws bs → AllMeant (ws ++ (w ∷ [])) (b ∷ bs)
-meant-wrote ws bs w b s p y g t A n v h = go (at-last n ws w v h)
+meant-wrote ws bs w b s p f y g t A n v h = go (at-last n ws w v h)
   where
     go : (at n ws ≡ some v) ⊎ ((n ≡ length ws) × (w ≡ v)) → Meant v (b ∷ bs)
     go (inl k) =
         let m = A n v k in
-        record { blk = m .blk; there = List·Memᴰ·tail (m .there); stream = m .stream; part = m .part; says = m .says; gives = m .gives; before = m .before }
+        record { blk = m .blk; there = List·Memᴰ·tail (m .there); stream = m .stream; part = m .part; fine = m .fine; says = m .says; gives = m .gives; before = m .before }
     go (inr k) =
         subst (λ (u : Written). Meant u (b ∷ bs)) (k .1)
-        (record { blk = b; there = List·Memᴰ·head refl; stream = s; part = p; says = y; gives = g; before = t })
+        (record { blk = b; there = List·Memᴰ·head refl; stream = s; part = p; fine = f; says = y; gives = g; before = t })

@@ -27,6 +27,7 @@ use Rattle.model.proofs.Marks.{part-number}
 use Rattle.model.proofs.LinkState.{linkOf, Management, management-said, Acknowledgements, acknowledgements-next, AllMeant, meant-wrote}
 use Rattle.model.proofs.View.{slotInstruction}
 use Rattle.model.proofs.EncoderItems.{meantItems, meant-plain, meant-fields}
+use Rattle.model.proofs.Saying.{choices-fine}
 use Rattle.model.proofs.EncoderView.{saidTo, block-kept, ack-found, ack-done, ack-kept}
 use Rattle.model.proofs.Slots.Messages.{SentNote, Note, onWire, FreedNote}
 use Rattle.model.proofs.Slots.Invariant.{WrittenBlock, Link, Invariant}
@@ -50,7 +51,7 @@ Still (acknowledged i n) = ⊥
 Still (heard i n) = ⊥
 Still (offered n s part rs room a o) = Unit {0}
 Still (freed i) = ⊥
-Still (told s) = Unit {0}
+Still (told k s) = Unit {0}
 Still (link.Event.reset s) = Unit {0}
 Still quiet = Unit {0}
 
@@ -79,7 +80,7 @@ still-same xs (acknowledged i n) s = absurd s
 still-same xs (heard i n) s = absurd s
 still-same xs (offered n t part rs room a o) s = same-by xs (offered n t part rs room a o) refl refl refl refl refl
 still-same xs (freed i) s = absurd s
-still-same xs (told t) s = same-by xs (told t) refl refl refl refl refl
+still-same xs (told k t) s = same-by xs (told k t) refl refl refl refl refl
 still-same xs (link.Event.reset t) s = same-by xs (link.Event.reset t) refl refl refl refl refl
 still-same xs quiet s = same-by xs quiet refl refl refl refl refl
 
@@ -166,7 +167,8 @@ module _ (xs : List Event) (E : Encoder) (D : Decoder) (T : Tied xs E D) where
         acknowledgements = rw (c, d) (T .acknowledgements);
         meant =
             rw (written-append xs (e ∷ []))
-            (meant-wrote (writtenIn xs) (T .blocks) _ new refl (sym (part-number part p q)) (meant-plain (E .entries) rs)
+            (meant-wrote (writtenIn xs) (T .blocks) _ new refl (sym (part-number part p q))
+            (choices-fine (E .entries) (F .order) (F .entries) fs fine) (meant-plain (E .entries) rs)
             (meant-fields (E .entries) (F .order) fs fine) refl (T .meant));
         invariant = rw a (block-kept E F now refl refl s p fs (T .invariant));
       }

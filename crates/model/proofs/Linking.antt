@@ -70,7 +70,7 @@ said-cons (acknowledged i n) es = refl
 said-cons (heard i n) es = refl
 said-cons (offered n s part rs room a o) es = refl
 said-cons (freed i) es = refl
-said-cons (told s) es = refl
+said-cons (told k s) es = refl
 said-cons (link.Event.reset s) es = refl
 said-cons quiet es = refl
 
@@ -82,7 +82,7 @@ freed-cons (acknowledged i n) es = refl
 freed-cons (heard i n) es = refl
 freed-cons (offered n s part rs room a o) es = refl
 freed-cons (freed i) es = refl
-freed-cons (told s) es = refl
+freed-cons (told k s) es = refl
 freed-cons (link.Event.reset s) es = refl
 freed-cons quiet es = refl
 
@@ -94,7 +94,7 @@ heard-cons (acknowledged i n) es = omega arith
 heard-cons (heard i n) es = omega arith
 heard-cons (offered n s part rs room a o) es = omega arith
 heard-cons (freed i) es = omega arith
-heard-cons (told s) es = omega arith
+heard-cons (told k s) es = omega arith
 heard-cons (link.Event.reset s) es = omega arith
 heard-cons quiet es = omega arith
 
@@ -106,7 +106,7 @@ acknowledged-cons (acknowledged i n) es = omega arith
 acknowledged-cons (heard i n) es = omega arith
 acknowledged-cons (offered n s part rs room a o) es = omega arith
 acknowledged-cons (freed i) es = omega arith
-acknowledged-cons (told s) es = omega arith
+acknowledged-cons (told k s) es = omega arith
 acknowledged-cons (link.Event.reset s) es = omega arith
 acknowledged-cons quiet es = omega arith
 
@@ -118,7 +118,7 @@ written-cons k (acknowledged i n) es = ap (λ (n : ℕ). writtenFrom n es) (omeg
 written-cons k (heard i n) es = ap (λ (n : ℕ). writtenFrom n es) (omega arith)
 written-cons k (offered n s part rs room a o) es = ap (λ (n : ℕ). writtenFrom n es) (omega arith)
 written-cons k (freed i) es = ap (λ (n : ℕ). writtenFrom n es) (omega arith)
-written-cons k (told s) es = ap (λ (n : ℕ). writtenFrom n es) (omega arith)
+written-cons k (told c s) es = ap (λ (n : ℕ). writtenFrom n es) (omega arith)
 written-cons k (link.Event.reset s) es = ap (λ (n : ℕ). writtenFrom n es) (omega arith)
 written-cons k quiet es = ap (λ (n : ℕ). writtenFrom n es) (omega arith)
 

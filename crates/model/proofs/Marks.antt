@@ -13,7 +13,7 @@ use Rattle.memory.specs.Choice.{pick}
 use Rattle.memory.proofs.Order.{split, either, pick-both, pick-true, not-both}
 use Rattle.wire.specs.StreamList.{StreamList, Fits, listed, names}
 use Rattle.instructions.specs.Instruction.{FineList}
-use Rattle.model.specs.Parts.{Part, nontrailer, trailer, partOf, partNumber, samePart, Marks, mark, markBoth, inTurn, Delete, namesPart, isOpen}
+use Rattle.model.specs.Parts.{Part, nontrailer, trailer, partOf, partNumber, samePart, Marks, mark, markBoth, inTurn, Delete, namesPart, isOpen, Closing, ended, closed}
 use Rattle.model.specs.Parts.{openBelow, streams, isReady}
 use Rattle.model.proofs.Tables.{nope, pick-eq}
 
@@ -32,6 +32,9 @@ mark-keeps s p marks t q h =
 pub both-keeps : (s : ℕ) (marks : Marks) (t : ℕ) (q : Part) → marks t q ≡ true → markBoth s marks t q ≡ true
 unfolding markBoth
 both-keeps s marks t q h = pick-both (λ (b : Bool). b ≡ true) (eqb s t) true (marks t q) (λ e. refl) (λ e. h)
+
+pub closed-keeps : (k : Closing) (s : ℕ) (marks : Marks) (t : ℕ) (q : Part) → marks t q ≡ true → closed k s marks t q ≡ true
+closed-keeps ended s marks t q h = both-keeps s marks t q h
 
 pub mark-same : (s : ℕ) (p q : Part) (marks : Marks) → mark s p marks s q ≡ (samePart p q || marks s q)
 unfolding mark

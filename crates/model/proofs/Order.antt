@@ -11,7 +11,7 @@ use Rattle.blocks.specs.Representation.{Representation}
 use Rattle.model.specs.Table.{Ascending}
 use Rattle.model.specs.Parts.{Part, nontrailer, trailer}
 use Rattle.model.specs.Decoder.{Decoder, heldIndex, without}
-use Rattle.model.specs.DecoderCalls.{DecoderCall, read, block, ended, collect, hold, unread, decoderCall, afterDecoder}
+use Rattle.model.specs.DecoderCalls.{DecoderCall, read, block, close, collect, hold, unread, decoderCall, afterDecoder}
 use Rattle.model.specs.Encoder.{Encoder, Sent, sentIndex, newSent, deleteAt, referred, refer, mentions}
 use Rattle.model.specs.EncoderCalls.{EncoderCall, encoderCall, afterEncoder}
 use Rattle.model.specs.EncoderCalls as at-encoder
@@ -28,7 +28,7 @@ InsertsFrom lo (read (insert i name value) taken) = lo ≤ i
 InsertsFrom lo (read (delete i plain last) taken) = Unit {0}
 InsertsFrom lo (read (acknowledge i) taken) = Unit {0}
 InsertsFrom lo (block s part rs room) = Unit {0}
-InsertsFrom lo (ended s) = Unit {0}
+InsertsFrom lo (close k s) = Unit {0}
 InsertsFrom lo (collect room) = Unit {0}
 InsertsFrom lo (hold i) = Unit {0}
 InsertsFrom lo (unread number) = Unit {0}
@@ -38,7 +38,7 @@ inserts-any (read (insert i name value) taken) = omega arith
 inserts-any (read (delete i plain last) taken) = tt
 inserts-any (read (acknowledge i) taken) = tt
 inserts-any (block s part rs room) = tt
-inserts-any (ended s) = tt
+inserts-any (close k s) = tt
 inserts-any (collect room) = tt
 inserts-any (hold i) = tt
 inserts-any (unread number) = tt
@@ -48,7 +48,7 @@ inserts-fine (read (insert i name value) taken) f = f .1 .0 .0
 inserts-fine (read (delete i plain last) taken) f = tt
 inserts-fine (read (acknowledge i) taken) f = tt
 inserts-fine (block s part rs room) f = tt
-inserts-fine (ended s) f = tt
+inserts-fine (close k s) f = tt
 inserts-fine (collect room) f = tt
 inserts-fine (hold i) f = tt
 inserts-fine (unread number) f = tt
@@ -65,8 +65,8 @@ decoder-order lo D (read (acknowledge i) taken) low a =
     decoder.acknowledge-ways (λ o. Ascending heldIndex lo (o .state .entries)) D (λ n e. a) i taken
 decoder-order lo D (block s part rs room) low a =
     decoder.block-ways (λ o. Ascending heldIndex lo (o .state .entries)) D (λ n e. a) s part rs room (λ p fs e f g h k. a)
-decoder-order lo D (ended s) low a =
-    decoder.end-ways (λ o. Ascending heldIndex lo (o .state .entries)) D (λ n e. a) s (λ e. a)
+decoder-order lo D (close k s) low a =
+    decoder.close-ways (λ o. Ascending heldIndex lo (o .state .entries)) D (λ n e. a) k s (λ e. a)
 decoder-order lo D (collect room) low a =
     decoder.collect-ways (λ o. Ascending heldIndex lo (o .state .entries)) D (λ n e. a) room (λ e. a)
     (λ h e f. asc-cut heldIndex (h .index) lo (D .entries) a)

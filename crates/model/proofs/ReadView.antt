@@ -15,7 +15,7 @@ use Rattle.memory.proofs.Order.{need-both, need-true, need-false}
 use Rattle.statics.specs.Table.{Entry, entryAt}
 use Rattle.wire.specs.Name.{Name, indexed, literal}
 use Rattle.instructions.specs.Instruction.{Instruction, insert, delete, acknowledge, Manages}
-use Rattle.blocks.specs.Meaning.{holds, withStatics}
+use Rattle.blocks.specs.Meaning.{holds, isStatic, withStatics}
 use Rattle.model.specs.Table.{size, look, put}
 use Rattle.model.specs.Parts.{Delete}
 use Rattle.model.specs.Outcome.{Outcome, nothing, finish}
@@ -25,7 +25,7 @@ use Rattle.model.proofs.Tables.{nope, total-put}
 use Rattle.model.proofs.DecoderWays.{withDelete}
 use Rattle.model.proofs.Slots.Functions as functions
 use Rattle.model.proofs.Slots.Machine.{emptySlot, liveSlot, deletedSlot, entryIn, ownName, nameOfSlot, resolve, insertIn, deleteIn}
-use Rattle.model.proofs.Slots.Machine.{DecoderTables, setSlot}
+use Rattle.model.proofs.Slots.Machine.{DecoderTables, withSlots, setSlot}
 use Rattle.model.proofs.Slots.Machine as machine
 use Rattle.model.proofs.View.{listsOf, slotAt, slotsOf, tablesOf, sourceOf, slotInstruction}
 use Rattle.model.proofs.TableView.{many-held, slots-put, slots-delete}
@@ -50,7 +50,7 @@ module _ (D : Decoder) (value : List ℕ) where
 
   pub name-view : (name : Name) → resolve (slotsOf D) (sourceOf name value) ≡ withName value (nameBytes (lookup D) name)
   unfolding resolve slotsOf sourceOf nameBytes lookup withStatics slotName
-  name-view (indexed i) = go (leb i 61)
+  name-view (indexed i) = go (isStatic i)
     where
       go : (b : Bool) → resolve (slotsOf D) (pick b (ownName (record { name = entryAt i .name; value = value })) (nameOfSlot i value))
           ≡ withName value (slotName (pick b (holds (entryAt i)) (slotIn (look heldIndex i (D .entries)))))
@@ -74,7 +74,7 @@ module _ (D : Decoder) (F : FormsDecoder D) (i taken : ℕ) where
       let h : Held = record { index = i; entry = c } in
       let t = slots-put D F h e in
       let w = total-put heldIndex (λ x. size (x .entry)) h (D .entries) in
-      record { view = λ T q. (λ k. record { slots = t k; finished = D .finished; filled = w k; limit = D .limit }) ∙ some-same q; done = λ T q. refl }
+      record { view = λ T q. (λ k. withSlots (tablesOf D) (t k) (w k)) ∙ some-same q; done = λ T q. refl }
 
   -- the limit leaves a place
   room-left : (c : Entry) → heldSize (D .entries) + size c ≤ D .limit → length (D .entries) < 128
@@ -116,7 +116,7 @@ module _ (D : Decoder) (F : FormsDecoder D) (i taken : ℕ) where
   delete-done d h e q =
       let t = slots-delete D d h e q in
       record {
-        view = λ T z. (λ k. record { slots = t k; finished = D .finished; filled = heldSize (D .entries); limit = D .limit }) ∙ some-same z;
+        view = λ T z. (λ k. withSlots (tablesOf D) (t k) (heldSize (D .entries))) ∙ some-same z;
         done = λ T z. refl;
       }
 

@@ -11,7 +11,7 @@ use Rattle.blocks.specs.Representation.{Representation, indexed}
 use Rattle.blocks.specs.Meaning.{Refers, blockReferences}
 use Rattle.model.specs.Parts.{Part, Delete, namesPart, isReady, streams}
 use Rattle.model.specs.Decoder.{Decoder, deleteOf, readyDelete, ready, FormsDecoder}
-use Rattle.model.specs.Ready.{CouldStill, ReadyHalf}
+use Rattle.model.specs.Ready.{AbstractCouldStill, AbstractReadyHalf}
 use Rattle.model.proofs.Marks.{OpenPart, part-low, ready-marked, ready-or}
 use Rattle.model.proofs.CouldStill.{finished-refuses, open-takes}
 use Rattle.model.proofs.Collecting.{delete-held, held-index, held-slot, none-ready, one-ready}
@@ -23,7 +23,7 @@ refers-itself i = List·Memᴰ·head refl
 module _ (D : Decoder) (F : FormsDecoder D) (i : ℕ) (d : Delete) (e : deleteOf D i ≡ some d) where
   -- no block that could still be accepted in a named part refers to the entry
   abbrev Unreachable : Type 0
-  Unreachable = (s : ℕ) (p : Part) (rs : List Representation) → namesPart d s p ≡ true → Refers rs i → CouldStill D s p rs → ⊥
+  Unreachable = (s : ℕ) (p : Part) (rs : List Representation) → namesPart d s p ≡ true → Refers rs i → AbstractCouldStill D s p rs → ⊥
 
   ready-is : ready D i ≡ isReady (D .finished) d
   unfolding ready readyDelete
@@ -42,7 +42,7 @@ module _ (D : Decoder) (F : FormsDecoder D) (i : ℕ) (d : Delete) (e : deleteOf
     pub stream : ℕ
     pub part : Part
     pub named : namesPart d stream part ≡ true
-    pub still : CouldStill D stream part (indexed i ∷ [])
+    pub still : AbstractCouldStill D stream part (indexed i ∷ [])
 
   open-reaches : OpenPart (D .finished) d streams → Reaches
   open-reaches o =
@@ -66,5 +66,5 @@ module _ (D : Decoder) (F : FormsDecoder D) (i : ℕ) (d : Delete) (e : deleteOf
   pub exactly : (ready D i ≡ true) ↔ Unreachable
   exactly = (ready-unreachable, unreachable-ready)
 
-pub ready-half : (D : Decoder) → FormsDecoder D → ReadyHalf D
+pub ready-half : (D : Decoder) → FormsDecoder D → AbstractReadyHalf D
 ready-half D F = record { exactly = exactly D F; none-ready = none-ready D F; one-ready = one-ready D F }

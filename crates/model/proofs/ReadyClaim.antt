@@ -3,13 +3,13 @@
 use mathlib.Core.List.{List}
 use Rattle.model.specs.Decoder.{Decoder, startDecoder, FormsDecoder}
 use Rattle.model.specs.DecoderCalls.{DecoderCall, afterDecoder}
-use Rattle.model.specs.Ready.{FineCalls, ReadyHalf, ReadyClaim}
+use Rattle.model.specs.Ready.{FineCalls, AbstractReadyHalf, AbstractReady}
 use Rattle.model.proofs.Forms.{forms-start, forms-after}
 use Rattle.model.proofs.Limits.{start-low}
 use Rattle.model.proofs.Ready.{ready-half}
 
-pub ready-after : (D : Decoder) → FormsDecoder D → (cs : List DecoderCall) → FineCalls cs → ReadyHalf (afterDecoder D cs)
+pub ready-after : (D : Decoder) → FormsDecoder D → (cs : List DecoderCall) → FineCalls cs → AbstractReadyHalf (afterDecoder D cs)
 ready-after D F cs fine = ready-half (afterDecoder D cs) (forms-after D cs F fine)
 
-pub ready-claim : ReadyClaim
+pub ready-claim : AbstractReady
 ready-claim = record { from-start = λ limit started. ready-after (startDecoder limit) (forms-start limit (start-low limit started)); from-state = ready-after }

@@ -12,25 +12,25 @@ use Rattle.statics.specs.Search.{hasName, hasBoth, lowest as lowest-static, low
 use Rattle.fields.specs.Form.{textForm, fieldForm, listForm}
 use Rattle.instructions.specs.Instruction.{instructionWire}
 use Rattle.blocks.specs.Representation.{representationWire, blockWire}
-use Rattle.blocks.specs.Meaning.{withStatics, fieldMeaning, blockMeaning, blockReferences}
+use Rattle.blocks.specs.Meaning.{isStatic, withStatics, fieldMeaning, blockMeaning, blockReferences}
 use Rattle.model.specs.Table.{size, look, put, cut, lowest, vacantFrom, total}
 use Rattle.model.specs.Parts.{partOf, mark, markBoth, inTurn, namesPart, isOpen, openBelow, isReady}
 use Rattle.model.specs.Decoder.{heldSize, slotIn, lookup, deleteOf, startDecoder, slotName, nameBytes, insertNamed, deleteEntry}
-use Rattle.model.specs.Decoder.{readInstruction, giveFields, decodePart, decodeBlock, endStream, readyDelete, ready, nextFreed, without}
+use Rattle.model.specs.Decoder.{readInstruction, giveFields, decodePart, decodeBlock, closeParts, readyDelete, ready, nextFreed, without}
 use Rattle.model.specs.Decoder.{freeEntry, collectEntry}
 use Rattle.model.specs.Encoder.{sentSize, startEncoder, serves, servesBoth, dynamicName, staticName, chooseName, dynamicField, staticField}
 use Rattle.model.specs.Encoder.{choose, insertAt, insertEntry, deleteAt, deleteFound, deleteSent, mentions, referred, refer, writePart}
 use Rattle.model.specs.Encoder.{encodePart, encodeBlock, acknowledgeFound, readAck}
 use Rattle.model.specs.EncoderCalls.{encoderCall}
-use Rattle.model.specs.Events.{LinkCall, Event, saidBy, wroteBy, encoderEvent, freedBy, toldBy, turn, events, endsAfter, fresh}
+use Rattle.model.specs.Events.{LinkCall, Event, saidBy, wroteBy, encoderEvent, freedBy, toldBy, decoderEvent, turn, events, endsAfter, fresh}
 
 unfoldable pub run : ℕ → ℕ → List LinkCall → List Event
 unfolding same intWire groupWire stringWire nameWire names listed listWire deltasWire entries entryAt hasName hasBoth lowest-static lowestName lowestBoth
-    textForm fieldForm listForm instructionWire representationWire blockWire withStatics fieldMeaning blockMeaning blockReferences
+    textForm fieldForm listForm instructionWire representationWire blockWire isStatic withStatics fieldMeaning blockMeaning blockReferences
     size look put cut lowest vacantFrom total partOf mark markBoth inTurn namesPart isOpen openBelow isReady
     heldSize slotIn lookup deleteOf startDecoder slotName nameBytes insertNamed deleteEntry readInstruction giveFields decodePart decodeBlock
-    endStream readyDelete ready nextFreed without freeEntry collectEntry
+    closeParts readyDelete ready nextFreed without freeEntry collectEntry
     sentSize startEncoder serves servesBoth dynamicName staticName chooseName dynamicField staticField choose insertAt insertEntry
     deleteAt deleteFound deleteSent mentions referred refer writePart encodePart encodeBlock acknowledgeFound readAck
-    encoderCall saidBy wroteBy encoderEvent freedBy toldBy turn events endsAfter fresh
+    encoderCall saidBy wroteBy encoderEvent freedBy toldBy decoderEvent turn events endsAfter fresh
 run encoderLimit decoderLimit cs = events (fresh encoderLimit decoderLimit) cs

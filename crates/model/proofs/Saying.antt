@@ -150,7 +150,7 @@ module _ (D : Decoder) (F : FormsDecoder D) where
   ack-call (at-decoder.read i taken) = ack-read i taken
   ack-call (at-decoder.block s part rs room) =
       decoder.block-ways Acks D (λ a z. tt) s part rs room (λ p fs e below turn m fits. tt)
-  ack-call (at-decoder.ended s) = decoder.end-ways Acks D (λ a z. tt) s (λ below. tt)
+  ack-call (at-decoder.close k s) = decoder.close-ways Acks D (λ a z. tt) k s (λ below. tt)
   ack-call (at-decoder.collect room) =
       decoder.collect-ways Acks D (λ a z. tt) room
       (λ e. tt)

@@ -14,7 +14,7 @@ use Rattle.blocks.specs.Meaning.{blockReferences}
 use Rattle.model.specs.Table.{size, look, put, cut}
 use Rattle.model.specs.Parts.{Part, nontrailer, trailer, Marks, streams}
 use Rattle.model.specs.Encoder.{Sent, sentIndex, Encoder, sentSize, withSent, asDeleted, deleteAt, mentions, referred, refer, FineSent}
-use Rattle.model.specs.Encoder.{FormsEncoder}
+use Rattle.model.specs.Encoder.{FormsEncoder, withWritten}
 use Rattle.model.proofs.Tables.{nope, look-put, asc-put, total-put, length-put, look-cut, asc-cut, total-cut, length-cut, look-map, asc-map}
 use Rattle.model.proofs.Tables.{total-map}
 
@@ -108,7 +108,7 @@ module _ (E : Encoder) (F : FormsEncoder E) where
     map-found none g y e = nope (cc)
     map-found (some x) g y e = let same : f x ≡ y = cc in subst FineSent same (fine x (g x refl))
 
-    pub sent-map : (written : Marks) → FormsEncoder (record { limit = E .limit; entries = map f (E .entries); written = written })
+    pub sent-map : (written : Marks) → FormsEncoder (withWritten (withSent E (map f (E .entries))) written)
     unfolding sentSize
     sent-map written =
         record {

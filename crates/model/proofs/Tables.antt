@@ -240,3 +240,11 @@ module _ {X : Type 0} (index : X → ℕ) where
   vacant-high n (x ∷ l) =
       let r = vacant-high (suc n) l in
       pick-eq (λ (t : ℕ). t ≤ n + suc (length l)) (index x) n (vacantFrom index (suc n) l) n (λ e. omega arith) (λ e. omega arith)
+
+  pub vacant-first : (n : ℕ) (l : List X) (k : ℕ) → n ≤ k → look index k l ≡ none → vacantFrom index n l ≤ k
+  unfolding vacantFrom
+  vacant-first n [] k h e = h
+  vacant-first n (x ∷ l) k h e =
+      let m = look-none k x l e in
+      pick-eq (λ (t : ℕ). t ≤ k) (index x) n (vacantFrom index (suc n) l) n
+      (λ z. vacant-first (suc n) l k (let w = m .0 in omega arith) (m .1)) (λ z. h)

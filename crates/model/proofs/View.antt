@@ -4,13 +4,13 @@ use Prim.Native.Nat.{ℕ}
 use mathlib.Core.Bool.{Bool, true, false}
 use mathlib.Core.Option.{Option, none, some}
 use mathlib.Core.List.{List, [], _∷_}
-use lib.Dec.{leb}
 use Rattle.memory.specs.Choice.{pick}
 use Rattle.statics.specs.Table.{Entry, entryAt}
 use Rattle.wire.specs.Name.{Name, indexed as by-index, literal as by-bytes}
 use Rattle.wire.specs.StreamList.{StreamList}
 use Rattle.instructions.specs.Instruction.{Instruction, insert, delete, acknowledge}
 use Rattle.blocks.specs.Representation.{Representation, indexed, literal}
+use Rattle.blocks.specs.Meaning.{isStatic}
 use Rattle.model.specs.Table.{look}
 use Rattle.model.specs.Parts.{Delete}
 use Rattle.model.specs.Decoder.{Held, heldIndex, deleteIndex, Decoder, heldSize}
@@ -49,7 +49,7 @@ tablesOf D = record { slots = slotsOf D; finished = D .finished; filled = heldSi
 -- ---- instructions and blocks: a static entry is no slot
 
 unfoldable pub sourceOf : Name → List ℕ → NameSource
-sourceOf (by-index i) value = pick (leb i 61) (ownName (record { name = entryAt i .name; value = value })) (nameOfSlot i value)
+sourceOf (by-index i) value = pick (isStatic i) (ownName (record { name = entryAt i .name; value = value })) (nameOfSlot i value)
 sourceOf (by-bytes name) value = ownName (record { name = name; value = value })
 
 -- an acknowledgement never comes to the decoder
@@ -59,8 +59,8 @@ slotInstruction (delete i plain trailer) = deleteSlot i (listsBy plain trailer)
 slotInstruction (acknowledge i) = deleteSlot i noLists
 
 unfoldable pub slotItem : Representation → Item
-slotItem (indexed i) = pick (leb i 61) (given (fieldOf (entryAt i))) (byIndex i)
-slotItem (literal flag (by-index i) value) = pick (leb i 61) (given (fieldNamed flag value (entryAt i))) (byName i flag value)
+slotItem (indexed i) = pick (isStatic i) (given (fieldOf (entryAt i))) (byIndex i)
+slotItem (literal flag (by-index i) value) = pick (isStatic i) (given (fieldNamed flag value (entryAt i))) (byName i flag value)
 slotItem (literal flag (by-bytes name) value) = given (record { flag = flag; name = name; value = value })
 
 unfoldable pub slotItems : List Representation → List Item

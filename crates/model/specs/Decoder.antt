@@ -17,7 +17,7 @@ use Rattle.blocks.specs.Representation.{Representation}
 use Rattle.blocks.specs.Meaning.{Slot, vacant as empty, holds, withStatics, BlockMeaning, list, blockMeaning}
 use Rattle.blocks.specs.Meaning as meaning
 use Rattle.model.specs.Table.{size, Account, Ascending, Distinct, look, put, cut, lowest, total}
-use Rattle.model.specs.Parts.{Part, partOf, Marks, noMarks, mark, markBoth, inTurn, Delete, openBelow, lowestOpen, streams, isReady}
+use Rattle.model.specs.Parts.{Part, partOf, Marks, noMarks, mark, Closing, closed, inTurn, Delete, openBelow, lowestOpen, streams, isReady}
 use Rattle.model.specs.Outcome.{nothing, instruction, fields, Outcome, refuse, finish}
 
 -- an entry of the table
@@ -37,6 +37,16 @@ pub record Decoder : Type 0 where
   pub entries : List Held
   pub deletes : List Delete
   pub finished : Marks
+
+-- with one of them changed
+abbrev pub withEntries : Decoder → List Held → Decoder
+withEntries D l = record { limit = D .limit; entries = l; deletes = D .deletes; finished = D .finished }
+
+abbrev pub withDeletes : Decoder → List Delete → Decoder
+withDeletes D l = record { limit = D .limit; entries = D .entries; deletes = l; finished = D .finished }
+
+abbrev pub withFinished : Decoder → Marks → Decoder
+withFinished D marks = record { limit = D .limit; entries = D .entries; deletes = D .deletes; finished = marks }
 
 -- "The held size is the sum over all entries held, those under deletion included."
 unfoldable pub heldSize : List Held → ℕ
@@ -62,9 +72,6 @@ unfoldable pub startDecoder : ℕ → Decoder
 startDecoder limit = record { limit = limit; entries = []; deletes = []; finished = noMarks }
 
 -- ---- a management instruction: "insert 8, 6, 7, 15; delete 8, 9". It tells how many bytes were taken.
-abbrev pub withEntries : Decoder → List Held → Decoder
-withEntries D l = record { limit = D .limit; entries = l; deletes = D .deletes; finished = D .finished }
-
 unfoldable pub slotName : Slot → Option (List ℕ)
 slotName empty = none
 slotName (holds e) = some (e .name)
@@ -92,7 +99,7 @@ unfoldable pub deleteEntry : Decoder → Delete → ℕ → Outcome Decoder
 deleteEntry D d taken =
     need (isSome (look heldIndex (d .index) (D .entries))) (refuse D vacant)
     (need (not (isSome (deleteOf D (d .index)))) (refuse D under-deletion)
-    (finish (record { limit = D .limit; entries = D .entries; deletes = D .deletes ++ (d ∷ []); finished = D .finished }) taken 0 nothing))
+    (finish (withDeletes D (D .deletes ++ (d ∷ []))) taken 0 nothing))
 
 -- an acknowledgement never comes here: the decoder's reader answers it with 5
 unfoldable pub readInstruction : Decoder → Instruction → ℕ → Outcome Decoder
@@ -101,9 +108,6 @@ readInstruction D (delete i plain trailer) taken = deleteEntry D (record { index
 readInstruction D (acknowledge i) taken = refuse D not-allowed
 
 -- ---- a block: "11, .. 1, 12". "A non-trailer block answered "done" finishes its part .. the same for the trailer."
-abbrev pub withFinished : Decoder → Marks → Decoder
-withFinished D marks = record { limit = D .limit; entries = D .entries; deletes = D .deletes; finished = marks }
-
 unfoldable pub giveFields : Decoder → ℕ → Part → ℕ → BlockMeaning → Outcome Decoder
 giveFields D s p room (meaning.BlockMeaning.waits i) = record { state = D; answer = record { number = waits; first = i; second = 0 }; output = nothing }
 giveFields D s p room (list fs) =
@@ -120,9 +124,9 @@ decodePart D s (some p) rs room =
 unfoldable pub decodeBlock : Decoder → ℕ → ℕ → List Representation → ℕ → Outcome Decoder
 decodeBlock D s part rs room = decodePart D s (partOf part) rs room
 
--- ---- ended: "The host may say that a stream has ended or was reset: both parts are finished, and saying it again is fine."
-unfoldable pub endStream : Decoder → ℕ → Outcome Decoder
-endStream D s = need (ltb s streams) (refuse D out-of-turn) (finish (withFinished D (markBoth s (D .finished))) 0 0 nothing)
+-- ---- parts closed: "The host may say that a stream has ended or was reset: both parts are finished, and saying it again is fine."
+unfoldable pub closeParts : Decoder → Closing → ℕ → Outcome Decoder
+closeParts D k s = need (ltb s streams) (refuse D out-of-turn) (finish (withFinished D (closed k s (D .finished))) 0 0 nothing)
 
 -- ---- collect: "frees the ready entry of lowest index and writes its Delete-Ack; with none ready it is done, writes 0 bytes and changes nothing"
 unfoldable pub readyDelete : Marks → Option Delete → Bool
@@ -136,7 +140,7 @@ unfoldable pub nextFreed : Decoder → Option Held
 nextFreed D = lowest heldIndex (λ h. ready D (h .index)) (D .entries)
 
 unfoldable pub without : Decoder → ℕ → Decoder
-without D i = record { limit = D .limit; entries = cut heldIndex i (D .entries); deletes = cut deleteIndex i (D .deletes); finished = D .finished }
+without D i = withDeletes (withEntries D (cut heldIndex i (D .entries))) (cut deleteIndex i (D .deletes))
 
 unfoldable pub freeEntry : Decoder → ℕ → Option Held → Outcome Decoder
 freeEntry D room none = finish D 0 0 nothing

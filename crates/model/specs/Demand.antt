@@ -1,9 +1,7 @@
--- The founder's third demand, entire, as one declaration.
-use Rattle.model.specs.Ready.{ReadyClaim}
-use Rattle.model.specs.Link.{LinkClaim}
+-- Both lemmas on abstract data that demand 3 is proved from. The founder's demand itself is `Demand3` of link/specs/Claims.antt.
+use Rattle.model.specs.Ready.{AbstractReady}
+use Rattle.model.specs.Link.{AbstractLink}
 
-pub record Demand3 : Type 0 where
-  -- "after it: a slot under deletion is ready to be freed exactly when .. A collect with room for its answer then frees one exactly when one is ready."
-  pub before-hence : ReadyClaim
-  -- "Hence, for every list of calls .."
-  pub hence : LinkClaim
+pub record AbstractDemand : Type 0 where
+  pub before-hence : AbstractReady
+  pub hence : AbstractLink

@@ -32,6 +32,16 @@ pub record Sent : Type 0 where
   pub trailer : ℕ
   pub deleted : Bool
 
+-- with a horizon changed, or put under deletion
+abbrev pub withPlain : Sent → ℕ → Sent
+withPlain e horizon = record { index = e .index; entry = e .entry; plain = horizon; trailer = e .trailer; deleted = e .deleted }
+
+abbrev pub withTrailer : Sent → ℕ → Sent
+withTrailer e horizon = record { index = e .index; entry = e .entry; plain = e .plain; trailer = horizon; deleted = e .deleted }
+
+abbrev pub asDeleted : Sent → Sent
+asDeleted e = record { index = e .index; entry = e .entry; plain = e .plain; trailer = e .trailer; deleted = true }
+
 abbrev pub sentIndex : Sent → ℕ
 sentIndex e = e .index
 
@@ -41,6 +51,13 @@ pub record Encoder : Type 0 where
   pub entries : List Sent
   pub written : Marks
 
+-- with one of them changed
+abbrev pub withSent : Encoder → List Sent → Encoder
+withSent E l = record { limit = E .limit; entries = l; written = E .written }
+
+abbrev pub withWritten : Encoder → Marks → Encoder
+withWritten E marks = record { limit = E .limit; entries = E .entries; written = marks }
+
 unfoldable pub sentSize : List Sent → ℕ
 sentSize l = total sentIndex (λ e. size (e .entry)) l
 
@@ -49,9 +66,6 @@ encoderAccount E = record { limit = E .limit; held = sentSize (E .entries); coun
 
 unfoldable pub startEncoder : ℕ → Encoder
 startEncoder limit = record { limit = limit; entries = []; written = noMarks }
-
-abbrev pub withSent : Encoder → List Sent → Encoder
-withSent E l = record { limit = E .limit; entries = l; written = E .written }
 
 -- ---- the choice of representation and index
 
@@ -109,9 +123,6 @@ insertEntry E name value room =
 abbrev pub emptyList : ℕ → StreamList
 emptyList horizon = record { horizon = horizon; streams = [] }
 
-abbrev pub asDeleted : Sent → Sent
-asDeleted e = record { index = e .index; entry = e .entry; plain = e .plain; trailer = e .trailer; deleted = true }
-
 -- the entry with index i put under deletion
 unfoldable pub deleteAt : ℕ → Sent → Sent
 deleteAt i e = pick (eqb (e .index) i) (asDeleted e) e
@@ -140,8 +151,8 @@ mentions (j ∷ js) i = pick (eqb j i) true (mentions js i)
 
 -- "Each horizon is one more than the highest stream whose block of that kind refers to the entry, by index or for its name"
 unfoldable pub referred : ℕ → Part → Sent → Sent
-referred s nontrailer e = record { index = e .index; entry = e .entry; plain = max (e .plain) (suc s); trailer = e .trailer; deleted = e .deleted }
-referred s trailer e = record { index = e .index; entry = e .entry; plain = e .plain; trailer = max (e .trailer) (suc s); deleted = e .deleted }
+referred s nontrailer e = withPlain e (max (e .plain) (suc s))
+referred s trailer e = withTrailer e (max (e .trailer) (suc s))
 
 unfoldable pub refer : ℕ → Part → List Representation → Sent → Sent
 refer s p rs e = pick (mentions (blockReferences rs) (e .index)) (referred s p e) e
@@ -150,7 +161,7 @@ unfoldable pub writePart : Encoder → ℕ → Part → List Representation → 
 writePart E s p rs room =
     need (leb (length (blockWire rs)) 16384) (refuse E too-long)
     (need (leb (length (blockWire rs)) room) (refuse E no-room)
-    (finish (record { limit = E .limit; entries = map (refer s p rs) (E .entries); written = mark s p (E .written) })
+    (finish (withWritten (withSent E (map (refer s p rs) (E .entries))) (mark s p (E .written)))
     (length (blockWire rs)) 0 (block rs)))
 
 unfoldable pub encodePart : Encoder → ℕ → Option Part → List Field → ℕ → Outcome Encoder

@@ -8,21 +8,19 @@ use Rattle.fields.specs.Form.{Field}
 use Rattle.instructions.specs.Instruction.{Instruction, insert, delete, acknowledge}
 use Rattle.blocks.specs.Representation.{Representation}
 use Rattle.model.specs.Outcome.{Output, nothing, instruction, block, fields, Outcome}
-use Rattle.model.specs.Decoder.{Decoder, startDecoder, readInstruction, decodeBlock, endStream, collectEntry}
+use Rattle.model.specs.Parts.{Closing}
+use Rattle.model.specs.Decoder.{Decoder, startDecoder}
+use Rattle.model.specs.DecoderCalls.{DecoderCall, decoderCall}
+use Rattle.model.specs.DecoderCalls as at-decoder
 use Rattle.model.specs.Encoder.{Encoder, startEncoder}
 use Rattle.model.specs.EncoderCalls.{EncoderCall, encoderCall}
 use Rattle.model.specs.EncoderCalls as at-encoder
 
--- a call at either end, or a stream that is reset, which calls neither. An offered block says which it is of those that the encoder wrote:
--- the n-th, then its stream, part number, representations and the room that is lent. `unread` is a call whose bytes the reading refuses.
+-- a call at either end, or a stream that is reset, which calls neither. An offered block says which it is of those that the encoder wrote: the n-th;
+-- the decoder's other calls have no use for the number.
 pub data LinkCall : Type 0 where
   encoder : EncoderCall → LinkCall
-  read : Instruction → ℕ → LinkCall
-  offer : ℕ → ℕ → ℕ → List Representation → ℕ → LinkCall
-  ended : ℕ → LinkCall
-  collect : ℕ → LinkCall
-  hold : ℕ → LinkCall
-  unread : ℕ → LinkCall
+  decoder : ℕ → DecoderCall → LinkCall
   reset : ℕ → LinkCall
 
 -- what happened in a call
@@ -39,8 +37,8 @@ pub data Event : Type 0 where
   offered : ℕ → ℕ → ℕ → List Representation → ℕ → Answer → Output → Event
   -- a collect freed the entry with this index and wrote its acknowledgement
   freed : ℕ → Event
-  -- the decoder was told, and answered "done", that a stream has ended
-  told : ℕ → Event
+  -- the host closed parts of a stream, and was answered "done"
+  told : Closing → ℕ → Event
   reset : ℕ → Event
   -- a call that was refused, or that none of the rules speaks of
   quiet : Event
@@ -81,8 +79,16 @@ freedBy (instruction (acknowledge i)) = freed i
 freedBy (block rs) = quiet
 freedBy (fields fs) = quiet
 
-unfoldable pub toldBy : ℕ → Answer → Event
-toldBy s a = pick (eqb (a .number) 0) (told s) quiet
+unfoldable pub toldBy : Closing → ℕ → Answer → Event
+toldBy k s a = pick (eqb (a .number) 0) (told k s) quiet
+
+unfoldable pub decoderEvent : ℕ → DecoderCall → Outcome Decoder → Event
+decoderEvent n (at-decoder.read i taken) o = heard i (o .answer .number)
+decoderEvent n (at-decoder.block s part rs room) o = offered n s part rs room (o .answer) (o .output)
+decoderEvent n (at-decoder.close k s) o = toldBy k s (o .answer)
+decoderEvent n (at-decoder.collect room) o = freedBy (o .output)
+decoderEvent n (at-decoder.hold i) o = quiet
+decoderEvent n (at-decoder.unread number) o = quiet
 
 abbrev pub atEncoder : Ends → Outcome Encoder → Event → Turn
 atEncoder S o e = record { ends = record { encoder = o .state; decoder = S .decoder }; event = e }
@@ -93,13 +99,7 @@ atDecoder S o e = record { ends = record { encoder = S .encoder; decoder = o .st
 -- ---- one call
 unfoldable pub turn : Ends → LinkCall → Turn
 turn S (encoder c) = let o = encoderCall (S .encoder) c in atEncoder S o (encoderEvent c o)
-turn S (read i taken) = let o = readInstruction (S .decoder) i taken in atDecoder S o (heard i (o .answer .number))
-turn S (offer n s part rs room) =
-    let o = decodeBlock (S .decoder) s part rs room in atDecoder S o (offered n s part rs room (o .answer) (o .output))
-turn S (ended s) = let o = endStream (S .decoder) s in atDecoder S o (toldBy s (o .answer))
-turn S (collect room) = let o = collectEntry (S .decoder) room in atDecoder S o (freedBy (o .output))
-turn S (hold i) = record { ends = S; event = quiet }
-turn S (unread number) = record { ends = S; event = quiet }
+turn S (decoder n c) = let o = decoderCall (S .decoder) c in atDecoder S o (decoderEvent n c o)
 turn S (reset s) = record { ends = S; event = reset s }
 
 -- ---- a list of calls: "each call gets the memory that the call before it at its end left"

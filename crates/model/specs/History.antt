@@ -1,67 +1,25 @@
--- Histories: what a table holds, and what a delete's horizons are, by the calls that were done since the start.
+-- Lemmas on abstract data: what the encoder's table holds, and what a delete's horizons are, by the calls that were done since the start.
+-- The claims themselves, on calls, bytes and answers, are link/specs/Histories.antt.
 use mathlib.Core.Path.{_≡_}
 use Prim.Native.Nat.{ℕ, suc, _+_, max}
 use mathlib.Core.Option.{Option, none, some}
 use mathlib.Core.List.{List, [], _∷_}
 use lib.Dec.{eqb}
 use Rattle.memory.specs.Choice.{pick}
-use Rattle.instructions.specs.Instruction.{Instruction, insert, delete, acknowledge}
 use Rattle.blocks.specs.Meaning.{blockReferences}
 use Rattle.model.specs.Table.{size, look}
 use Rattle.model.specs.Parts.{Part, nontrailer, trailer, partNumber}
 use Rattle.model.specs.Outcome.{Output, nothing, instruction, block, fields, Outcome}
-use Rattle.model.specs.Decoder.{Decoder, Held, heldIndex, heldSize, startDecoder}
-use Rattle.model.specs.DecoderCalls.{DecoderCall, decoderCall, afterDecoder}
 use Rattle.model.specs.Encoder.{Encoder, Sent, sentIndex, sentSize, startEncoder, mentions}
 use Rattle.model.specs.EncoderCalls.{EncoderCall, encoderCall, afterEncoder}
-use Rattle.model.specs.DecoderCalls as at-decoder
 use Rattle.model.specs.EncoderCalls as at-encoder
 
 -- the size of the entry that was found
-unfoldable pub sizeHeld : Option Held → ℕ
-sizeHeld none = 0
-sizeHeld (some h) = size (h .entry)
-
 unfoldable pub sizeSent : Option Sent → ℕ
 sizeSent none = 0
 sizeSent (some e) = size (e .entry)
 
--- ---- the decoder: "the sizes of all inserts done less the sizes of all entries freed since the start"
-
--- the size of the entry that an insert put in: of what its index holds after it
-unfoldable pub insertedBy : Instruction → Decoder → ℕ
-insertedBy (insert i name value) after = sizeHeld (look heldIndex i (after .entries))
-insertedBy (delete i plain last) after = 0
-insertedBy (acknowledge i) after = 0
-
--- the size of the entry that an acknowledgement's writing freed: of what its index held before it
-unfoldable pub freedBy : Output → Decoder → ℕ
-freedBy nothing before = 0
-freedBy (instruction (insert i name value)) before = 0
-freedBy (instruction (delete i plain last)) before = 0
-freedBy (instruction (acknowledge i)) before = sizeHeld (look heldIndex i (before .entries))
-freedBy (block rs) before = 0
-freedBy (fields fs) before = 0
-
--- the size that a call added: of a read answered "done"
-unfoldable pub added : Decoder → DecoderCall → ℕ
-added D (at-decoder.read i taken) =
-    pick (eqb (decoderCall D (at-decoder.read i taken) .answer .number) 0) (insertedBy i (decoderCall D (at-decoder.read i taken) .state)) 0
-added D (at-decoder.block s part rs room) = 0
-added D (at-decoder.ended s) = 0
-added D (at-decoder.collect room) = 0
-added D (at-decoder.hold i) = 0
-added D (at-decoder.unread number) = 0
-
-unfoldable pub addedSince : Decoder → List DecoderCall → ℕ
-addedSince D [] = 0
-addedSince D (c ∷ cs) = added D c + addedSince (decoderCall D c .state) cs
-
-unfoldable pub freedSince : Decoder → List DecoderCall → ℕ
-freedSince D [] = 0
-freedSince D (c ∷ cs) = freedBy (decoderCall D c .output) D + freedSince (decoderCall D c .state) cs
-
--- ---- the encoder
+-- ---- "the sizes of all inserts done less the sizes of all entries freed since the start"
 unfoldable pub sent : Encoder → EncoderCall → ℕ
 sent E (at-encoder.insert name value room) =
     pick (eqb (encoderCall E (at-encoder.insert name value room) .answer .number) 0) (size (record { name = name; value = value })) 0
@@ -117,8 +75,6 @@ horizonOf trailer e = e .trailer
 -- ---- the claims
 pub record Histories : Type 0 where
   -- "At every moment it equals the sizes of all inserts done less the sizes of all entries freed since the start."
-  pub decoder-held : (limit : ℕ) (cs : List DecoderCall)
-      → heldSize (afterDecoder (startDecoder limit) cs .entries) + freedSince (startDecoder limit) cs ≡ addedSince (startDecoder limit) cs
   pub encoder-held : (limit : ℕ) (cs : List EncoderCall)
       → sentSize (afterEncoder (startEncoder limit) cs .entries) + ackedSince (startEncoder limit) cs ≡ sentSince (startEncoder limit) cs
   pub horizons : (limit : ℕ) (cs : List EncoderCall) (p : Part) (i : ℕ) (e : Sent)

@@ -6,6 +6,7 @@ pub mod Decoder
 pub mod DecoderCalls
 pub mod Encoder
 pub mod EncoderCalls
+pub mod Happened
 pub mod Ready
 pub mod Promises
 pub mod History

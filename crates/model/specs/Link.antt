@@ -1,4 +1,5 @@
--- Document 01's "Rules for the link", over the whole list of events; and what demand 3 says after "Hence".
+-- A lemma on abstract data that the claim is proved from: the rules for the link over lists of the model's events, and what follows from them.
+-- The claim itself, on memory and bytes, is link/specs/Claims.antt.
 use mathlib.Core.Path.{_≡_}
 use mathlib.Core.Logic.{_↔_, _⊎_}
 use Prim.Native.Nat.{ℕ, zero, suc, _+_, _≤_, _<_}
@@ -14,10 +15,11 @@ use Rattle.instructions.specs.Instruction.{Instruction, insert, delete, acknowl
 use Rattle.blocks.specs.Representation.{Representation}
 use Rattle.blocks.specs.Meaning.{Refers}
 use Rattle.model.specs.Table.{look}
+use Rattle.model.specs.Parts.{ended}
 use Rattle.model.specs.Outcome.{Output, fields, startAnswer}
 use Rattle.model.specs.Decoder.{heldIndex, isSome}
 use Rattle.model.specs.EncoderCalls as at-encoder
-use Rattle.model.specs.Events.{LinkCall, encoder, read, offer, ended, collect, hold, unread, Event, said, wrote, acknowledged, heard, offered, freed, told, quiet, events, endsAfter, fresh}
+use Rattle.model.specs.Events.{LinkCall, encoder, decoder, Event, said, wrote, acknowledged, heard, offered, freed, told, quiet, events, endsAfter, fresh}
 use Rattle.model.specs.Events as link
 
 -- the element at a place, from 0
@@ -37,7 +39,7 @@ saidIn (acknowledged i n ∷ es) = saidIn es
 saidIn (heard i n ∷ es) = saidIn es
 saidIn (offered n s part rs room a o ∷ es) = saidIn es
 saidIn (freed i ∷ es) = saidIn es
-saidIn (told s ∷ es) = saidIn es
+saidIn (told k s ∷ es) = saidIn es
 saidIn (link.Event.reset s ∷ es) = saidIn es
 saidIn (quiet ∷ es) = saidIn es
 
@@ -50,7 +52,7 @@ heardIn (acknowledged i n ∷ es) = heardIn es
 heardIn (heard i n ∷ es) = pick (eqb n 0) 1 0 + heardIn es
 heardIn (offered n s part rs room a o ∷ es) = heardIn es
 heardIn (freed i ∷ es) = heardIn es
-heardIn (told s ∷ es) = heardIn es
+heardIn (told k s ∷ es) = heardIn es
 heardIn (link.Event.reset s ∷ es) = heardIn es
 heardIn (quiet ∷ es) = heardIn es
 
@@ -63,7 +65,7 @@ freedIn (acknowledged i n ∷ es) = freedIn es
 freedIn (heard i n ∷ es) = freedIn es
 freedIn (offered n s part rs room a o ∷ es) = freedIn es
 freedIn (freed i ∷ es) = i ∷ freedIn es
-freedIn (told s ∷ es) = freedIn es
+freedIn (told k s ∷ es) = freedIn es
 freedIn (link.Event.reset s ∷ es) = freedIn es
 freedIn (quiet ∷ es) = freedIn es
 
@@ -76,7 +78,7 @@ acknowledgedIn (acknowledged i n ∷ es) = pick (eqb n 0) 1 0 + acknowledgedIn e
 acknowledgedIn (heard i n ∷ es) = acknowledgedIn es
 acknowledgedIn (offered n s part rs room a o ∷ es) = acknowledgedIn es
 acknowledgedIn (freed i ∷ es) = acknowledgedIn es
-acknowledgedIn (told s ∷ es) = acknowledgedIn es
+acknowledgedIn (told k s ∷ es) = acknowledgedIn es
 acknowledgedIn (link.Event.reset s ∷ es) = acknowledgedIn es
 acknowledgedIn (quiet ∷ es) = acknowledgedIn es
 
@@ -97,7 +99,7 @@ writtenFrom k (acknowledged i n ∷ es) = writtenFrom k es
 writtenFrom k (heard i n ∷ es) = writtenFrom k es
 writtenFrom k (offered n s part rs room a o ∷ es) = writtenFrom k es
 writtenFrom k (freed i ∷ es) = writtenFrom k es
-writtenFrom k (told s ∷ es) = writtenFrom k es
+writtenFrom k (told c s ∷ es) = writtenFrom k es
 writtenFrom k (link.Event.reset s ∷ es) = writtenFrom k es
 writtenFrom k (quiet ∷ es) = writtenFrom k es
 
@@ -118,7 +120,7 @@ heldFrom h (acknowledged j n ∷ es) i = heldFrom h es i
 heldFrom h (heard j n ∷ es) i = heldFrom (heldBy j n i h) es i
 heldFrom h (offered n s part rs room a o ∷ es) i = heldFrom h es i
 heldFrom h (freed j ∷ es) i = heldFrom (pick (eqb j i) false h) es i
-heldFrom h (told s ∷ es) i = heldFrom h es i
+heldFrom h (told k s ∷ es) i = heldFrom h es i
 heldFrom h (link.Event.reset s ∷ es) i = heldFrom h es i
 heldFrom h (quiet ∷ es) i = heldFrom h es i
 
@@ -137,7 +139,7 @@ pub record Accepted (n : ℕ) (es : List Event) : Type 0 where
   pub when : List·Memᴰ (offered n stream part says room answer output) es
 
 -- ---- the rules. Each speaks of an event and of those before it, xs; "ever" is anywhere in the whole list, es.
-pub record Rules (es : List Event) : Type 0 where
+pub record AbstractRules (es : List Event) : Type 0 where
   -- "management and acknowledgement bytes are the other end's, whole, in order, none again once read"
   pub management : (xs ys : List Event) (i : Instruction) (n : ℕ) → es ≡ xs ++ (heard i n ∷ ys) → at (heardIn xs) (saidIn xs) ≡ some i
   pub acknowledgements : (xs ys : List Event) (i n : ℕ) → es ≡ xs ++ (acknowledged i n ∷ ys) → at (acknowledgedIn xs) (freedIn xs) ≡ some i
@@ -153,14 +155,14 @@ pub record Rules (es : List Event) : Type 0 where
       → es ≡ xs ++ (offered n s 1 rs room a o ∷ ys)
       → (m : ℕ) × (w : Written) × (at m (writtenIn xs) ≡ some w) × (w .stream ≡ s) × (w .part ≡ 0) × Accepted m xs
   -- "a stream is told as ended only after every block ever written on it was answered "done", or it was reset"
-  pub ends : (xs ys : List Event) (s : ℕ) → es ≡ xs ++ (told s ∷ ys)
+  pub ends : (xs ys : List Event) (s : ℕ) → es ≡ xs ++ (told ended s ∷ ys)
       → ((n : ℕ) (w : Written) → at n (writtenIn es) ≡ some w → w .stream ≡ s → Accepted n xs) ⊎ List·Memᴰ (link.Event.reset s) xs
   -- "and a reset stream brings nothing more, its waiting blocks included"
   pub resets : (xs ys : List Event) (n s part : ℕ) (rs : List Representation) (room : ℕ) (a : Answer) (o : Output)
       → es ≡ xs ++ (offered n s part rs room a o ∷ ys) → List·Memᴰ (link.Event.reset s) xs → ⊥
 
 -- ---- what follows, for one offered block: the events before it, the block written, the answer and the output
-pub record ServedBlock (xs : List Event) (w : Written) (a : Answer) (o : Output) : Type 0 where
+pub record AbstractServedBlock (xs : List Event) (w : Written) (a : Answer) (o : Output) : Type 0 where
   -- "no offered block is refused as faulty" (faulty: any but 0 and 1)
   pub no-fault : (a .number ≡ 0) ⊎ (a .number ≡ 1)
   -- "each decoded one gives the list of fields put in, byte for byte"
@@ -171,9 +173,9 @@ pub record ServedBlock (xs : List Event) (w : Written) (a : Answer) (o : Output)
   pub prompt : w .before ≤ heardIn xs → a .number ≡ 0
 
 -- and for the whole list
-pub record Served (es : List Event) : Type 0 where
+pub record AbstractServed (es : List Event) : Type 0 where
   pub blocks : (xs ys : List Event) (n s part : ℕ) (rs : List Representation) (room : ℕ) (a : Answer) (o : Output)
-      → es ≡ xs ++ (offered n s part rs room a o ∷ ys) → (w : Written) → at n (writtenIn xs) ≡ some w → ServedBlock xs w a o
+      → es ≡ xs ++ (offered n s part rs room a o ∷ ys) → (w : Written) → at n (writtenIn xs) ≡ some w → AbstractServedBlock xs w a o
   -- no whole management instruction and no acknowledgement is refused
   pub management : (xs ys : List Event) (i : Instruction) (n : ℕ) → es ≡ xs ++ (heard i n ∷ ys) → n ≡ 0
   pub acknowledgements : (xs ys : List Event) (i n : ℕ) → es ≡ xs ++ (acknowledged i n ∷ ys) → n ≡ 0
@@ -185,12 +187,7 @@ FineLinkCall (encoder (at-encoder.delete i room)) = Unit {0}
 FineLinkCall (encoder (at-encoder.block s part fs room)) = AllFine fs
 FineLinkCall (encoder (at-encoder.acknowledged i taken)) = Unit {0}
 FineLinkCall (encoder (at-encoder.unread number)) = Unit {0}
-FineLinkCall (read i taken) = Unit {0}
-FineLinkCall (offer n s part rs room) = Unit {0}
-FineLinkCall (ended s) = Unit {0}
-FineLinkCall (collect room) = Unit {0}
-FineLinkCall (hold i) = Unit {0}
-FineLinkCall (unread number) = Unit {0}
+FineLinkCall (decoder n c) = Unit {0}
 FineLinkCall (link.LinkCall.reset s) = Unit {0}
 
 abbrev pub FineLinkCalls : List LinkCall → Type 0
@@ -199,11 +196,7 @@ FineLinkCalls (c ∷ cs) = FineLinkCall c × FineLinkCalls cs
 
 -- "Hence, for every list of calls, refused ones too, at an encoder .. and such a decoder, if the list keeps document 01's rules for the link,
 -- whatever order the streams arrive in"; "a list follows a start answered "done" and has no other"; "encoder limit not above the decoder's"
-pub record LinkClaim : Type 0 where
+pub record AbstractLink : Type 0 where
   pub served : (encoderLimit decoderLimit : ℕ) → startAnswer encoderLimit .number ≡ 0 → startAnswer decoderLimit .number ≡ 0
       → encoderLimit ≤ decoderLimit → (cs : List LinkCall) → FineLinkCalls cs
-      → Rules (events (fresh encoderLimit decoderLimit) cs) → Served (events (fresh encoderLimit decoderLimit) cs)
-  -- a slot that is empty by this history is vacant in the table, and the other way round
-  pub empty : (encoderLimit decoderLimit : ℕ) (cs : List LinkCall) (i : ℕ)
-      → heldAfter (events (fresh encoderLimit decoderLimit) cs) i
-      ≡ isSome (look heldIndex i (endsAfter (fresh encoderLimit decoderLimit) cs .decoder .entries))
+      → AbstractRules (events (fresh encoderLimit decoderLimit) cs) → AbstractServed (events (fresh encoderLimit decoderLimit) cs)

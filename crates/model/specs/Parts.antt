@@ -39,6 +39,13 @@ mark s p marks t q = pick (eqb s t) (samePart p q || marks t q) (marks t q)
 unfoldable pub markBoth : ℕ → Marks → Marks
 markBoth s marks t q = pick (eqb s t) true (marks t q)
 
+-- how the host closes parts of a stream without a block
+pub data Closing : Type 0 where
+  ended : Closing
+
+abbrev pub closed : Closing → ℕ → Marks → Marks
+closed ended s marks = markBoth s marks
+
 -- "Out of turn: a part already finished (or, at the encoder, already written), or a trailer before its non-trailer."
 unfoldable pub inTurn : Marks → ℕ → Part → Bool
 inTurn marks s nontrailer = not (marks s nontrailer)

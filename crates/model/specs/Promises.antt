@@ -8,15 +8,15 @@ use mathlib.Core.List.{List}
 use lib.ListN.{length}
 use Rattle.fields.specs.Form.{Field}
 use Rattle.blocks.specs.Representation.{Representation}
-use Rattle.model.specs.Parts.{Part, partNumber, Delete, namesPart, streams}
+use Rattle.model.specs.Parts.{Part, partNumber, ended, Delete, namesPart, streams}
 use Rattle.model.specs.Outcome.{nothing, outputBytes, Outcome, finish}
 use Rattle.model.specs.Decoder.{Decoder, deleteOf, ready, FormsDecoder}
-use Rattle.model.specs.DecoderCalls.{DecoderCall, ended, collect, hold, decoderCall}
+use Rattle.model.specs.DecoderCalls.{DecoderCall, close, collect, hold, decoderCall}
 use Rattle.model.specs.DecoderCalls as at-decoder
 use Rattle.model.specs.Encoder.{Encoder}
 use Rattle.model.specs.EncoderCalls.{EncoderCall, insert, delete, encoderCall}
 use Rattle.model.specs.EncoderCalls as at-encoder
-use Rattle.model.specs.Ready.{CouldStill}
+use Rattle.model.specs.Ready.{AbstractCouldStill}
 
 -- "Every number but 0 leaves state and buffers unchanged."
 abbrev pub Unchanged : {S : Type 0} → S → Outcome S → Type 0
@@ -49,8 +49,8 @@ pub record Promises : Type 0 where
   -- "A non-trailer block answered "done" finishes its part .. the same for the trailer": no block is accepted there any more
   pub done-finishes : (D : Decoder) (s : ℕ) (p : Part) (rs : List Representation) (room : ℕ)
       → decoderCall D (at-decoder.block s (partNumber p) rs room) .answer .number ≡ 0
-      → (qs : List Representation) → CouldStill (decoderCall D (at-decoder.block s (partNumber p) rs room) .state) s p qs → ⊥
+      → (qs : List Representation) → AbstractCouldStill (decoderCall D (at-decoder.block s (partNumber p) rs room) .state) s p qs → ⊥
   -- "a stream has ended or was reset: both parts are finished"
-  pub ended-finishes : (D : Decoder) (s : ℕ) (p : Part) → s < streams → (rs : List Representation) → CouldStill (decoderCall D (ended s) .state) s p rs → ⊥
+  pub ended-finishes : (D : Decoder) (s : ℕ) (p : Part) → s < streams → (rs : List Representation) → AbstractCouldStill (decoderCall D (close ended s) .state) s p rs → ⊥
   -- the hold enquiry about an entry under deletion
   pub hold-tells : (D : Decoder) → FormsDecoder D → (i : ℕ) (d : Delete) → deleteOf D i ≡ some d → HoldTells D i d

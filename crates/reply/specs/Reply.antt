@@ -1,5 +1,6 @@
 -- An answer with its told numbers, and the one number that a C host gets.
-use Prim.Native.Nat.{ℕ, _+_, _*_, _<_}
+use mathlib.Core.Path.{_≡_}
+use Prim.Native.Nat.{ℕ, _+_, _*_, _/_, _%_, _<_}
 use Rattle.integers.specs.Answers.{Answer}
 use Rattle.reply.specs.declared.Reply.{Reply}
 
@@ -13,3 +14,9 @@ packed a = a .number + 256 * a .first + 1099511627776 * a .second
 -- what fits: the second number of an answer is at most 2^24 - 1
 abbrev pub Narrow : Answer → Type 0
 Narrow a = a .second < 16777216
+
+-- each part is found in its place, as the C header's macros take it out
+pub record Unpacked (a : Answer) : Type 0 where
+  pub number-back : packed a % 256 ≡ a .number
+  pub first-back : packed a / 256 % 4294967296 ≡ a .first
+  pub second-back : packed a / 1099511627776 ≡ a .second

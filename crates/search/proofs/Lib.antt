@@ -2,6 +2,7 @@
 pub mod Words
 pub mod Fields
 pub mod Finding
+pub mod Locating
 pub mod Walking
 pub mod Serving
 pub mod Pairing

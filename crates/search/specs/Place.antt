@@ -1,9 +1,9 @@
 -- What an index names, and the bytes of its name and value: "handed on as a part of the static text or of the table's bytes, not copied first".
 use Prim.Native.Nat.{ℕ, _≤_, _<_}
 use mathlib.Core.List.{List, []}
-use lib.Dec.{leb}
 use Rattle.memory.specs.Choice.{pick}
 use Rattle.statics.specs.Table.{staticName, staticValue}
+use Rattle.blocks.specs.Meaning.{isStatic}
 use Rattle.state.specs.Layout.{countOf}
 use Rattle.state.specs.Rows.{nameAt, valueAt}
 use Rattle.search.specs.Search.{findFrom}
@@ -16,9 +16,9 @@ abbrev pub placeFound : Found → EntryPlace
 placeFound (At i) = Dynamic i
 placeFound (Vacant i) = Nowhere
 
--- "Indexes 1 to 61 are static."
+-- "Indexes 1 to 61 are static"; any other, 0 among them, is looked for in the rows
 unfoldable pub locate : List ℕ → ℕ → EntryPlace
-locate m index = pick (leb index 61) (Static (record { value = index })) (placeFound (findFrom m index (countOf m) 0))
+locate m index = pick (isStatic index) (Static (record { value = index })) (placeFound (findFrom m index (countOf m) 0))
 
 -- the place is one of the static table, or of a row
 abbrev pub InPlace : List ℕ → EntryPlace → Type 0

@@ -1,6 +1,6 @@
 // What an index names, and its name and value as a part of the static text or of the table's bytes.
 ghost use mathlib.Core.Path.{_≡_};
-ghost use Prim.Native.Nat.{ℕ, _+_};
+ghost use Prim.Native.Nat.{ℕ, _+_, _≤_};
 ghost use Rattle.statics.specs.Table.{staticText};
 ghost use Rattle.search.specs.Search.{Ordered};
 ghost use Rattle.search.specs.Place.{locate, InPlace, placeName, placeValue};
@@ -23,7 +23,7 @@ pub enum EntryPlace {
 
 // What this index names.
 pub fn locate(m: &[u8], index: TableIndex) -> EntryPlace
-    requires { ⌜ Ordered (now m) ⌝ }
+    requires { ⌜ (1 ≤ index .value) × Ordered (now m) ⌝ }
     ensures { λ r. ⌜ r ≡ locate (now (m .entry)) (index .value) ⌝ }
 {
     if index.value <= LAST {

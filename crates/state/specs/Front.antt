@@ -19,6 +19,16 @@ pub record Front : Type 0 where
   pub deletes : ℕ
   pub marks : Marks
 
+-- with one of them changed
+abbrev pub withRows : Front → List Row → Front
+withRows f rs = record { role = f .role; limit = f .limit; rows = rs; deletes = f .deletes; marks = f .marks }
+
+abbrev pub withDeletes : Front → ℕ → Front
+withDeletes f n = record { role = f .role; limit = f .limit; rows = f .rows; deletes = n; marks = f .marks }
+
+abbrev pub withMarks : Front → Marks → Front
+withMarks f k = record { role = f .role; limit = f .limit; rows = f .rows; deletes = f .deletes; marks = k }
+
 -- a set bit: at the decoder the part is unfinished, at the encoder it is not written yet
 unfoldable pub marksOf : List ℕ → Marks
 marksOf m s p = pick (ltb s streams) (not (isSet m (marksPlace p) s)) false

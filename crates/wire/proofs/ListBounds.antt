@@ -1,6 +1,6 @@
 -- Which values and places a stream list that was read can have: by cases along the equations of `ListLaws`.
 use mathlib.Core.Path.{_≡_, refl, sym, ap, subst, _∙_}
-use Prim.Native.Nat.{ℕ, zero, suc, _+_, _≤_, _<_}
+use Prim.Native.Nat.{ℕ, zero, suc, _+_, _*_, _≤_, _<_}
 use native.Mathlib.Omega.{arith}
 use native.Mathlib.Numerals.{sub-one}
 use mathlib.Core.List.{List}
@@ -43,11 +43,13 @@ pub record DeltaGood (s : List ℕ) (at last stream next : ℕ) : Type 0 where
   pub allowed : stream ≤ 4095
   pub past : at < next
   pub within : next ≤ length s
+  pub close : next ≤ at + 5
 
 -- what deltas that were read are
 pub record DeltasGood (n : ℕ) (s : List ℕ) (at last next : ℕ) : Type 0 where
   pub past : at ≤ next
   pub within : at ≤ length s → next ≤ length s
+  pub close : next ≤ at + 5 * n
   pub counted : length (streamsFrom n s at last) ≡ n
   pub fits : Fits last (streamsFrom n s at last)
 
@@ -56,6 +58,7 @@ pub record ListGood (s : List ℕ) (at : ℕ) (p : ListPlace) (next : ℕ) : Typ
   pub past : at < p .deltas
   pub order : p .deltas ≤ next
   pub within : next ≤ length s
+  pub close : next ≤ at + 90
   pub near : p .horizon ≤ 4096
   pub few : p .count ≤ 16
   pub counted : length (listOf s p .streams) ≡ p .count
@@ -82,7 +85,7 @@ module _ (s : List ℕ) (at last : ℕ) where
       split 0 (n .value)
       (λ l. split 4095 (last + n .value)
       (λ m. rw (delta-over s at last _ e n next refl l m) tt)
-      (λ m. rw (delta-stream s at last _ e n next refl l m) (record { ascends = omega arith; allowed = m; past = g .0; within = g .1 })))
+      (λ m. rw (delta-stream s at last _ e n next refl l m) (record { ascends = omega arith; allowed = m; past = g .0; within = g .1; close = g .3 })))
       (λ l. rw (delta-zero s at last _ e n next refl l) tt)
 
   pub delta-good : (x : StreamNumber) (next : ℕ) → readDelta s at last ≡ Stream x next → DeltaGood s at last (x .value) next
@@ -104,6 +107,7 @@ module _ (s : List ℕ) where
           record {
             past = omega arith;
             within = λ l. h .within (g .within);
+            close = omega (arith, g .close, h .close);
             counted = ap length k ∙ ap suc (h .counted);
             fits = rw k (g .ascends, g .allowed, h .fits);
           }
@@ -111,7 +115,7 @@ module _ (s : List ℕ) where
   of-deltas : (n at last : ℕ) → OfDeltas n s at last (readDeltas n s at last)
   of-deltas zero at last =
       rw (deltas-end s at last 0 (omega arith))
-      (record { past = omega arith; within = λ l. l; counted = ap length (streams-end s at last); fits = rw (streams-end s at last) tt })
+      (record { past = omega arith; within = λ l. l; close = omega arith; counted = ap length (streams-end s at last); fits = rw (streams-end s at last) tt })
   of-deltas (suc n) at last = of-more n at last (readDelta s at last) refl (of-deltas n)
 
   pub deltas-good : (n at last next : ℕ) → readDeltas n s at last ≡ End next → DeltasGood n s at last next
@@ -140,6 +144,7 @@ module _ (s : List ℕ) (at : ℕ) where
                 past = omega arith;
                 order = g .past;
                 within = g .within (b .1);
+                close = omega (arith, a .3, b .3, g .close, k);
                 near = h;
                 few = k;
                 counted = g .counted;

@@ -1,4 +1,4 @@
--- Which places a string or a name that was read can have: inside the input, after their own place, and not too long.
+-- Which places a string or a name that was read can have: inside the input, after their own place and near it, and not too long.
 -- By cases along the equations of `readString` and `readName`.
 use mathlib.Core.Path.{_≡_, refl, sym, ap, subst, _∙_}
 use Prim.Native.Nat.{ℕ, _+_, _-_, _≤_, _<_}
@@ -28,6 +28,7 @@ pub record GoodString (s : List ℕ) (at limit : ℕ) (p : StringPlace) (next : 
   pub after : at < p .start
   pub ends : p .start + p .size ≡ next
   pub inside : next ≤ length s
+  pub near : next ≤ at + 5 + limit
   pub text : InText s p
   pub short : stringLength s p ≤ limit
 
@@ -36,25 +37,25 @@ GoodStringRead s at limit (Found p next) = GoodString s at limit p next
 GoodStringRead s at limit (Refused number) = Unit {0}
 
 module _ (s : List ℕ) (at limit : ℕ) where
-  good-place : (size start : ℕ) → at < start → start ≤ length s → size ≤ limit → size ≤ length s - start
+  good-place : (size start : ℕ) → at < start → start ≤ at + 5 → start ≤ length s → size ≤ limit → size ≤ length s - start
       → GoodString s at limit (record { start = start; size = size }) (start + size)
   unfolding stringLength
-  good-place size start h k l m =
-      record { after = h; ends = refl; inside = omega arith; text = omega arith; short = l }
+  good-place size start h near k l m =
+      record { after = h; ends = refl; inside = omega arith; near = omega arith; text = omega arith; short = l }
 
-  good-after : (size start : ℕ) → at < start → start ≤ length s → GoodStringRead s at limit (stringAfter s limit size start)
-  good-after size start h k =
+  good-after : (size start : ℕ) → at < start → start ≤ at + 5 → start ≤ length s → GoodStringRead s at limit (stringAfter s limit size start)
+  good-after size start h near k =
       split limit size
       (λ l. rw (after-long s limit size start l) tt)
       (λ l. split (length s - start) size
       (λ m. rw (after-cut s limit size start l m) tt)
-      (λ m. rw (after-found s limit size start l m) (good-place size start h k l m)))
+      (λ m. rw (after-found s limit size start l m) (good-place size start h near k l m)))
 
   good-value : at < length s → getD s at 0 < 128 → (r : IntRead) → r ≡ readInt 7 s at → GoodStringRead s at limit (readString s at limit)
   good-value h k (IntRefused number) e = rw (string-refused s at limit h k _ e number refl) tt
   good-value h k (Value n start) e =
       let g = int-good 7 s at (omega arith) _ e n start refl in
-      rw (string-value s at limit h k _ e n start refl) (good-after (n .value) start (g .0) (g .1))
+      rw (string-value s at limit h k _ e n start refl) (good-after (n .value) start (g .0) (g .3) (g .1))
 
   pub good-string : GoodStringRead s at limit (readString s at limit)
   good-string =
@@ -92,7 +93,7 @@ module _ (s : List ℕ) (p : StringPlace) where
   in-text-kept t h = omega (arith, length-append s t)
 
 abbrev pub GoodNameRead : List ℕ → ℕ → NameRead → Type 0
-GoodNameRead s at (NameFound p next) = (at < next) × (next ≤ length s) × GoodName s p
+GoodNameRead s at (NameFound p next) = (at < next) × (next ≤ length s) × (next ≤ at + 265) × GoodName s p
 GoodNameRead s at (NameRefused number) = Unit {0}
 
 module _ (k : ℕ) (s : List ℕ) (at : ℕ) (h : k ≤ 8) where
@@ -103,17 +104,18 @@ module _ (k : ℕ) (s : List ℕ) (at : ℕ) (h : k ≤ 8) where
       let g = int-good k s at h _ e n next refl in
       let t = string-good s next 255 p after (sym f) in
       rw (name-text k s at _ e n next refl z _ f p after refl)
-      (omega (arith, g .0, t .after, t .ends), t .inside, (t .text, t .short))
+      (omega (arith, g .0, t .after, t .ends), t .inside, omega (arith, g .3, t .near), (t .text, t .short))
 
   good-head : (r : IntRead) → r ≡ readInt k s at → GoodNameRead s at (readName k s at)
   good-head (IntRefused number) e = rw (name-refused k s at _ e number refl) tt
   good-head (Value n next) e =
       let g = int-good k s at h _ e n next refl in
       split 0 (n .value)
-      (λ l. rw (name-index k s at _ e n next refl (λ z. omega arith)) (g .0, g .1, (l, g .2)))
+      (λ l. rw (name-index k s at _ e n next refl (λ z. omega arith)) (g .0, g .1, omega (arith, g .3), (l, g .2)))
       (λ l. good-text n next e (omega arith) (readString s next 255) refl)
 
-  pub name-good : (p : NamePlace) (next : ℕ) → readName k s at ≡ NameFound p next → (at < next) × (next ≤ length s) × GoodName s p
+  pub name-good : (p : NamePlace) (next : ℕ) → readName k s at ≡ NameFound p next
+      → (at < next) × (next ≤ length s) × (next ≤ at + 265) × GoodName s p
   name-good p next e = subst (GoodNameRead s at) e (good-head (readInt k s at) refl)
 
 pub name-of-kept : (s t : List ℕ) (p : NamePlace) → GoodName s p → nameOf (s ++ t) p ≡ nameOf s p

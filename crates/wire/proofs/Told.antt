@@ -1,13 +1,13 @@
--- Strings, names and stream lists are refused by numbers of reading alone; so is what follows one, if its own refusals and its rest are.
+-- Which numbers strings and names (2, 3, 4, 13) and stream lists (2, 3, 14) are refused by. What follows one is refused by these and by its own.
 -- Along the definitions, as for integers.
 use Prim.Native.Nat.{ℕ, zero, suc, _+_, _-_}
-use mathlib.Core.List.{List}
+use mathlib.Core.List.{List, [], _∷_}
 use lib.ListN.{length, getD}
 use lib.Dec.{ltb, leb, eqb}
 use Rattle.memory.proofs.Order.{pick-both, need-both}
-use Rattle.integers.specs.Answers.{Refuses}
+use Rattle.integers.specs.Answers.{truncated, too-large, packed, too-long, bad-stream-list}
 use Rattle.integers.specs.Integer.{readInt}
-use Rattle.integers.proofs.Told.{Told, int-told, told-on-int}
+use Rattle.integers.proofs.Told.{Told, One, wider, intRefusals, int-told, told-on-int}
 use Rattle.wire.specs.Text.{onString, readString, stringAfter}
 use Rattle.wire.specs.Name.{onName, readName}
 use Rattle.wire.specs.StreamList.{onDelta, onDeltas, onList, readDelta, readDeltas, readList}
@@ -25,28 +25,34 @@ use Rattle.wire.specs.declared.stream_list.DeltasRead.the-variants.{End,
 use Rattle.wire.specs.declared.stream_list.ListRead.{ListRead}
 use Rattle.wire.specs.declared.stream_list.ListRead.the-variants.{Found as ListFound, Refused as ListRefused}
 
+abbrev pub textRefusals : List ℕ
+textRefusals = truncated ∷ too-large ∷ packed ∷ too-long ∷ []
+
+abbrev pub listRefusals : List ℕ
+listRefusals = truncated ∷ too-large ∷ bad-stream-list ∷ []
+
 abbrev pub StringTold : StringRead → Type 0
 StringTold (Found p next) = Unit {0}
-StringTold (Refused m) = Refuses m
+StringTold (Refused m) = One textRefusals m
 
 abbrev pub NameTold : NameRead → Type 0
 NameTold (NameFound p next) = Unit {0}
-NameTold (NameRefused m) = Refuses m
+NameTold (NameRefused m) = One textRefusals m
 
 abbrev pub DeltaTold : DeltaRead → Type 0
 DeltaTold (Stream x next) = Unit {0}
-DeltaTold (DeltaRefused m) = Refuses m
+DeltaTold (DeltaRefused m) = One listRefusals m
 
 abbrev pub DeltasTold : DeltasRead → Type 0
 DeltasTold (End next) = Unit {0}
-DeltasTold (DeltasRefused m) = Refuses m
+DeltasTold (DeltasRefused m) = One listRefusals m
 
 abbrev pub ListTold : ListRead → Type 0
 ListTold (ListFound p next) = Unit {0}
-ListTold (ListRefused m) = Refuses m
+ListTold (ListRefused m) = One listRefusals m
 
 -- a reader's answer, then what follows
-module _ {X : Type 0} (Fine : X → Type 0) (refused : ℕ → X) (h : (m : ℕ) → Refuses m → Fine (refused m)) where
+module _ {X : Type 0} (Fine : X → Type 0) (refused : ℕ → X) (h : (m : ℕ) → One textRefusals m → Fine (refused m)) where
   pub told-on-string : (r : StringRead) {f : StringPlace → ℕ → X} → Told StringTold r → ((p : StringPlace) (next : ℕ) → Told Fine (f p next))
       → Told Fine (onString refused r f)
   told-on-string (Found p next) k g = g p next
@@ -57,6 +63,7 @@ module _ {X : Type 0} (Fine : X → Type 0) (refused : ℕ → X) (h : (m : ℕ)
   told-on-name (NameFound p next) k g = g p next
   told-on-name (NameRefused m) k g = record { told = h m (k .told) }
 
+module _ {X : Type 0} (Fine : X → Type 0) (refused : ℕ → X) (h : (m : ℕ) → One listRefusals m → Fine (refused m)) where
   pub told-on-delta : (r : DeltaRead) {f : ℕ → ℕ → X} → Told DeltaTold r → ((x next : ℕ) → Told Fine (f x next))
       → Told Fine (onDelta refused r f)
   told-on-delta (Stream x next) k g = g (x .value) next
@@ -83,19 +90,19 @@ module _ (s : List ℕ) (at : ℕ) where
   string-told limit =
       need-both (Told StringTold) (ltb at (length s)) (Refused 2) _ (λ e. record { told = tt })
       (λ e. need-both (Told StringTold) (ltb (getD s at 0) 128) (Refused 4) _ (λ d. record { told = tt })
-      (λ d. told-on-int StringTold Refused (λ m r. r) (readInt 7 s at) (int-told 7 s at) (after-told limit)))
+      (λ d. told-on-int StringTold Refused (wider textRefusals intRefusals tt) (readInt 7 s at) (int-told 7 s at) (after-told limit)))
 
   pub delta-told : (last : ℕ) → Told DeltaTold (readDelta s at last)
   unfolding readDelta
   delta-told last =
-      told-on-int DeltaTold DeltaRefused (λ m r. r) (readInt 8 s at) (int-told 8 s at)
+      told-on-int DeltaTold DeltaRefused (wider listRefusals intRefusals tt) (readInt 8 s at) (int-told 8 s at)
       (λ delta next. need-both (Told DeltaTold) (ltb 0 delta) (DeltaRefused 14) _ (λ e. record { told = tt })
       (λ e. need-both (Told DeltaTold) (leb (last + delta) 4095) (DeltaRefused 14) _ (λ d. record { told = tt }) (λ d. record { told = tt })))
 
 pub name-told : (k : ℕ) (s : List ℕ) (at : ℕ) → Told NameTold (readName k s at)
 unfolding readName
 name-told k s at =
-    told-on-int NameTold NameRefused (λ m r. r) (readInt k s at) (int-told k s at)
+    told-on-int NameTold NameRefused (wider textRefusals intRefusals tt) (readInt k s at) (int-told k s at)
     (λ index next. pick-both (Told NameTold) (eqb index 0) _ _
     (λ e. told-on-string NameTold NameRefused (λ m r. r) (readString s next 255) (string-told s next 255) (λ p after. record { told = tt }))
     (λ e. record { told = tt }))
@@ -109,9 +116,9 @@ deltas-told (suc n) s at last =
 pub list-told : (s : List ℕ) (at : ℕ) → Told ListTold (readList s at)
 unfolding readList
 list-told s at =
-    told-on-int ListTold ListRefused (λ m r. r) (readInt 8 s at) (int-told 8 s at)
+    told-on-int ListTold ListRefused (wider listRefusals intRefusals tt) (readInt 8 s at) (int-told 8 s at)
     (λ horizon after. need-both (Told ListTold) (leb horizon 4096) (ListRefused 14) _ (λ e. record { told = tt })
-    (λ e. told-on-int ListTold ListRefused (λ m r. r) (readInt 8 s after) (int-told 8 s after)
+    (λ e. told-on-int ListTold ListRefused (wider listRefusals intRefusals tt) (readInt 8 s after) (int-told 8 s after)
     (λ count deltas. need-both (Told ListTold) (leb count 16) (ListRefused 14) _ (λ d. record { told = tt })
     (λ d. told-on-deltas ListTold ListRefused (λ m r. r) (readDeltas count s deltas horizon) (deltas-told count s deltas horizon)
     (λ next. record { told = tt })))))

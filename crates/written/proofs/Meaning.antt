@@ -4,13 +4,12 @@ use mathlib.Core.Path.{_≡_, refl, sym, ap, _∙_}
 use Prim.Native.Nat.{ℕ}
 use mathlib.Core.Bool.{Bool, true, false}
 use mathlib.Core.List.{List, [], _∷_, map}
-use lib.Dec.{leb}
 use Rattle.memory.specs.Choice.{pick}
 use Rattle.wire.specs.Name.{indexed as by-index, literal as by-bytes}
 use Rattle.statics.specs.Table.{Entry, entryAt}
 use Rattle.fields.specs.Form.{Field, AllFine}
 use Rattle.blocks.specs.Representation.{Representation, indexed, literal}
-use Rattle.blocks.specs.Meaning.{Slot, holds, withStatics, onSlot, fieldMeaning, BlockMeaning, list, afterField, blockMeaning}
+use Rattle.blocks.specs.Meaning.{Slot, holds, isStatic, withStatics, onSlot, fieldMeaning, BlockMeaning, list, afterField, blockMeaning}
 use Rattle.model.specs.Table.{Ascending, look}
 use Rattle.model.specs.Encoder.{Sent, sentIndex, choose}
 use Rattle.model.proofs.Slots.Machine.{fieldOf, fieldNamed}
@@ -46,9 +45,9 @@ module _ (l : List Sent) where
   unfolding blockMeaning fieldMeaning withStatics meantBy meant fieldsOf
   means-meant [] r = refl
   means-meant (indexed i ∷ rs) r =
-      named i fieldOf (meantIndex i) (meantBy l rs) (λ c. refl) (λ c s. s) (leb i 61) (blockMeaning slots rs) (means-meant rs) r
+      named i fieldOf (meantIndex i) (meantBy l rs) (λ c. refl) (λ c s. s) (isStatic i) (blockMeaning slots rs) (means-meant rs) r
   means-meant (literal flag (by-index i) value ∷ rs) r =
-      named i (fieldNamed flag value) (λ c. meantName i c flag value) (meantBy l rs) (λ c. refl) (λ c s. s) (leb i 61) (blockMeaning slots rs)
+      named i (fieldNamed flag value) (λ c. meantName i c flag value) (meantBy l rs) (λ c. refl) (λ c s. s) (isStatic i) (blockMeaning slots rs)
       (means-meant rs) r
   means-meant (literal flag (by-bytes name) value ∷ rs) r = rw (means-meant rs r) refl
 

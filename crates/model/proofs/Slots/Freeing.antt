@@ -13,24 +13,16 @@ use Rattle.model.specs.Parts.{Marks}
 use Rattle.model.proofs.Tables.{nope}
 use Rattle.model.proofs.Slots.Functions.{setAt, set-here, set-elsewhere, same-or-not}
 use Rattle.model.proofs.Slots.Machine.{StreamPart, markedAt, DeleteLists, namedParts, allMarked, emptySlot, deletedSlot, entryIn}
-use Rattle.model.proofs.Slots.Machine.{DecoderTables, sizeOf, freeAt, setSlot, all-marked}
+use Rattle.model.proofs.Slots.Machine.{withMarks, sizeOf, freeAt, setSlot, all-marked}
 use Rattle.model.proofs.Slots.Life.{Fits, fits-free, fits-live, fits-deleted, fits-freed, GoodSlot, leads-empty, deleted-good, collect-good}
 use Rattle.model.proofs.Slots.Life.{AckTaken, ack-good}
 use Rattle.model.proofs.Slots.Messages.{freeSent, liveSent, deletedSent, FreedNote, messages, ackAbout, acks, acks-snoc, ack-hit, ack-miss}
-use Rattle.model.proofs.Slots.Invariant.{Link, InsertUnread, freedSize, Reference, GoodSlots, Invariant, references-step}
+use Rattle.model.proofs.Slots.Invariant.{Link, withEncoder, withDecoder, withAcks, InsertUnread, freedSize, Reference, GoodSlots, Invariant, references-step}
 use Rattle.model.proofs.Slots.Unread.{freedSize-snoc, unread-none}
 
 -- ---- the encoder reads an acknowledgement
 unfoldable pub afterAck : Link → FreedNote → List FreedNote → Link
-afterAck L a rest = record {
-  encoderSlots = setAt (a .slot) freeSent (L .encoderSlots);
-  encoderFilled = L .encoderFilled - size (a .entry);
-  decoder = L .decoder;
-  writtenCount = L .writtenCount;
-  unread = L .unread;
-  unreadAcks = rest;
-  blocks = L .blocks;
-}
+afterAck L a rest = withAcks (withEncoder L (setAt (a .slot) freeSent (L .encoderSlots)) (L .encoderFilled - size (a .entry))) rest
 
 acks-hit : (a : FreedNote) (rest : List FreedNote) → acks (a .slot) (a ∷ rest) ≡ a .entry ∷ acks (a .slot) rest
 unfolding acks
@@ -87,23 +79,8 @@ module _ (L : Link) (a : FreedNote) (rest : List FreedNote) (h : L .unreadAcks �
   }
 
 -- ---- the decoder's finished parts grow (a block answered "done", "ended")
-unfoldable pub withDecoder : Link → DecoderTables → Link
-withDecoder L D = record {
-  encoderSlots = L .encoderSlots;
-  encoderFilled = L .encoderFilled;
-  decoder = D;
-  writtenCount = L .writtenCount;
-  unread = L .unread;
-  unreadAcks = L .unreadAcks;
-  blocks = L .blocks;
-}
-
-unfoldable pub withMarks : DecoderTables → Marks → DecoderTables
-withMarks D f = record { slots = D .slots; finished = f; filled = D .filled; limit = D .limit }
-
 pub marks-invariant : (L : Link) (f : Marks) → ((q : StreamPart) → markedAt (L .decoder .finished) q ≡ true → markedAt f q ≡ true) → Invariant L
     → Invariant (withDecoder L (withMarks (L .decoder) f))
-unfolding withDecoder withMarks
 marks-invariant L f mono I = record {
   slots = I .slots;
   sizes = I .sizes;
@@ -114,15 +91,7 @@ marks-invariant L f mono I = record {
 
 -- ---- the decoder collects a ready slot
 unfoldable pub afterCollect : Link → ℕ → Entry → Link
-afterCollect L k c = record {
-  encoderSlots = L .encoderSlots;
-  encoderFilled = L .encoderFilled;
-  decoder = freeAt (L .decoder) k;
-  writtenCount = L .writtenCount;
-  unread = L .unread;
-  unreadAcks = L .unreadAcks ++ (record { slot = k; entry = c } ∷ []);
-  blocks = L .blocks;
-}
+afterCollect L k c = withAcks (withDecoder L (freeAt (L .decoder) k)) (L .unreadAcks ++ (record { slot = k; entry = c } ∷ []))
 
 module _ (L : Link) (k : ℕ) (c : Entry) (ls : DeleteLists) (d : L .decoder .slots k ≡ deletedSlot c ls)
     (all : allMarked (L .decoder .finished) (namedParts ls) ≡ true) (s : size c ≤ L .decoder .filled) (I : Invariant L) where

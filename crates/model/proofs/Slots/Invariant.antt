@@ -2,10 +2,10 @@
 -- that the decoder holds or will have read. It holds at the start.
 use mathlib.Core.Path.{_≡_, refl}
 use mathlib.Core.Logic.{_⊎_}
-use Prim.Native.Nat.{ℕ, _+_, _≤_, _<_}
+use Prim.Native.Nat.{ℕ, suc, _+_, _≤_, _<_}
 use mathlib.Core.Bool.{Bool, true, false}
 use mathlib.Core.Option.{some}
-use mathlib.Core.List.{List, [], _∷_, List·Memᴰ}
+use mathlib.Core.List.{List, [], _∷_, _++_, List·Memᴰ}
 use native.Mathlib.Omega.{arith}
 use Rattle.statics.specs.Table.{Entry}
 use Rattle.fields.specs.Form.{Field}
@@ -65,6 +65,75 @@ pub record Link : Type 0 where
   pub unread : List SentNote
   pub unreadAcks : List FreedNote
   pub blocks : List WrittenBlock
+
+-- with other slots at the encoder, which hold this size; with other tables at the decoder
+abbrev pub withEncoder : Link → (ℕ → EncoderSlot) → ℕ → Link
+withEncoder L t n = record {
+  encoderSlots = t;
+  encoderFilled = n;
+  decoder = L .decoder;
+  writtenCount = L .writtenCount;
+  unread = L .unread;
+  unreadAcks = L .unreadAcks;
+  blocks = L .blocks;
+}
+
+abbrev pub withDecoder : Link → DecoderTables → Link
+withDecoder L D = record {
+  encoderSlots = L .encoderSlots;
+  encoderFilled = L .encoderFilled;
+  decoder = D;
+  writtenCount = L .writtenCount;
+  unread = L .unread;
+  unreadAcks = L .unreadAcks;
+  blocks = L .blocks;
+}
+
+-- with one instruction more written; with these instructions, or these acknowledgements, unread
+abbrev pub withNote : Link → Note → Link
+withNote L note = record {
+  encoderSlots = L .encoderSlots;
+  encoderFilled = L .encoderFilled;
+  decoder = L .decoder;
+  writtenCount = suc (L .writtenCount);
+  unread = L .unread ++ (record { number = L .writtenCount; note = note } ∷ []);
+  unreadAcks = L .unreadAcks;
+  blocks = L .blocks;
+}
+
+abbrev pub withUnread : Link → List SentNote → Link
+withUnread L rest = record {
+  encoderSlots = L .encoderSlots;
+  encoderFilled = L .encoderFilled;
+  decoder = L .decoder;
+  writtenCount = L .writtenCount;
+  unread = rest;
+  unreadAcks = L .unreadAcks;
+  blocks = L .blocks;
+}
+
+abbrev pub withAcks : Link → List FreedNote → Link
+withAcks L l = record {
+  encoderSlots = L .encoderSlots;
+  encoderFilled = L .encoderFilled;
+  decoder = L .decoder;
+  writtenCount = L .writtenCount;
+  unread = L .unread;
+  unreadAcks = l;
+  blocks = L .blocks;
+}
+
+-- with one block more written
+abbrev pub withBlock : Link → StreamPart → List MeantItem → Link
+withBlock L q b = record {
+  encoderSlots = L .encoderSlots;
+  encoderFilled = L .encoderFilled;
+  decoder = L .decoder;
+  writtenCount = L .writtenCount;
+  unread = L .unread;
+  unreadAcks = L .unreadAcks;
+  blocks = record { place = q; items = b; before = L .writtenCount } ∷ L .blocks;
+}
 
 -- the note is an insert of c at i
 abbrev pub Inserts : Note → ℕ → Entry → Type 0

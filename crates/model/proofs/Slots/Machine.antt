@@ -94,6 +94,13 @@ pub record DecoderTables : Type 0 where
   pub filled : ℕ
   pub limit : ℕ
 
+-- with other slots, which hold this size; with other marks
+abbrev pub withSlots : DecoderTables → DecoderSlots → ℕ → DecoderTables
+withSlots D t n = record { slots = t; finished = D .finished; filled = n; limit = D .limit }
+
+abbrev pub withMarks : DecoderTables → Marks → DecoderTables
+withMarks D marks = record { slots = D .slots; finished = marks; filled = D .filled; limit = D .limit }
+
 -- ---- a block's meaning
 unfoldable pub addField : Field → BlockAnswer → BlockAnswer
 addField f (gives fs) = gives (f ∷ fs)
@@ -132,7 +139,7 @@ resolve t (nameOfSlot j v) = elim (entryIn (t j)) [ none ↦ none | some c ↦ s
 
 -- the tables with slot i changed, and this size held
 unfoldable pub setSlot : DecoderTables → ℕ → DecoderSlot → ℕ → DecoderTables
-setSlot D i d n = record { slots = setAt i d (D .slots); finished = D .finished; filled = n; limit = D .limit }
+setSlot D i d n = withSlots D (setAt i d (D .slots)) n
 
 -- none: the instruction is refused
 unfoldable pub insertIn : DecoderTables → ℕ → DecoderSlot → Option Entry → Option DecoderTables

@@ -17,7 +17,7 @@ use Rattle.model.proofs.Slots.Messages.{Note, noteInsert, noteNamed, no
 use Rattle.model.proofs.Slots.Messages.{saysDelete, about, messages, acks, insert-hit, insert-miss, named-hit, named-source, named-self}
 use Rattle.model.proofs.Slots.Messages.{named-miss, delete-hit, delete-miss}
 use Rattle.model.proofs.Slots.Life.{Acts, acts-insert, acts-name, acts-delete, Leads, GoodSlot, insert-empty}
-use Rattle.model.proofs.Slots.Invariant.{Link, Inserts, InsertUnread, unreadSize, Reference, Invariant, references-step}
+use Rattle.model.proofs.Slots.Invariant.{Link, withDecoder, withUnread, Inserts, InsertUnread, unreadSize, Reference, Invariant, references-step}
 
 -- ---- the first message of a slot
 record TakesDelete (m : List SlotMessage) (ls : DeleteLists) (d e : DecoderSlot) : Type 0 where
@@ -71,16 +71,7 @@ read-delete D k ls c p = rw p
 
 -- ---- the link after it
 unfoldable pub afterRead : Link → DecoderTables → List SentNote → Link
-afterRead L D rest =
-    record {
-      encoderSlots = L .encoderSlots;
-      encoderFilled = L .encoderFilled;
-      decoder = D;
-      writtenCount = L .writtenCount;
-      unread = rest;
-      unreadAcks = L .unreadAcks;
-      blocks = L .blocks;
-    }
+afterRead L D rest = withUnread (withDecoder L D) rest
 
 -- the note is taken: it leads to these tables, with the finished parts of before
 pub record TakenNote (L : Link) (x : Note) (rest : List SentNote) : Type 0 where

@@ -11,7 +11,7 @@ use Rattle.model.proofs.Slots.Machine.{StreamPart, DeleteLists, namedPa
 use Rattle.model.proofs.Slots.Life.{Fits, fits-free, fits-live, fits-deleted, fits-freed, GoodSlot, refer-good}
 use Rattle.model.proofs.Slots.Messages.{EncoderSlot, liveSent, deletedSent, SentNote, FreedNote, SlotMessage, messages, acks}
 use Rattle.model.proofs.Slots.Invariant.{MeantItem, EachReference, references-map, WrittenBlock, Link, Reference, GoodSlots, AllReferences}
-use Rattle.model.proofs.Slots.Invariant.{Invariant}
+use Rattle.model.proofs.Slots.Invariant.{withEncoder, withBlock, Invariant}
 use Rattle.model.proofs.Slots.Unread.{came-from}
 
 -- ---- the encoder writes a block; the slots that it refers to remember its part
@@ -35,15 +35,7 @@ pub record NewReference (enc enc′ : ℕ → EncoderSlot) (q : StreamPart) (i :
   pub noted : List·Memᴰ q (namedParts lists′)
 
 unfoldable pub afterBlock : Link → StreamPart → List MeantItem → (ℕ → EncoderSlot) → Link
-afterBlock L q b enc′ = record {
-  encoderSlots = enc′;
-  encoderFilled = L .encoderFilled;
-  decoder = L .decoder;
-  writtenCount = L .writtenCount;
-  unread = L .unread;
-  unreadAcks = L .unreadAcks;
-  blocks = record { place = q; items = b; before = L .writtenCount } ∷ L .blocks;
-}
+afterBlock L q b enc′ = withBlock (withEncoder L enc′ (L .encoderFilled)) q b
 
 block-slots : (enc enc′ : ℕ → EncoderSlot) (tab : DecoderSlots) (mq : List SentNote) (aq : List FreedNote) → Grown enc enc′ → GoodSlots enc tab mq aq
     → GoodSlots enc′ tab mq aq

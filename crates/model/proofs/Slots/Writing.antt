@@ -2,7 +2,7 @@
 -- is referred to by nobody and a delete's lists name the parts that refer.
 use mathlib.Core.Path.{_≡_, ap, _∙_}
 use mathlib.Core.Logic.{_≢_, _⊎_, inl, inr}
-use Prim.Native.Nat.{ℕ, suc, _+_, _≤_}
+use Prim.Native.Nat.{ℕ, _+_, _≤_}
 use mathlib.Core.Option.{Option, some}
 use mathlib.Core.List.{List, [], _∷_, _++_, append-nil, List·Memᴰ}
 use native.Mathlib.Omega.{arith}
@@ -15,20 +15,13 @@ use Rattle.model.proofs.Slots.Life.{GoodSlot, insert-good, name-good, d
 use Rattle.model.proofs.Slots.Messages.{EncoderSlot, freeSent, liveSent, deletedSent, noteInsert, noteNamed, noteDelete, SentNote, FreedNote}
 use Rattle.model.proofs.Slots.Messages.{about, messages, acks, messages-snoc, insert-hit, insert-miss, named-hit, named-source, named-miss}
 use Rattle.model.proofs.Slots.Messages.{delete-hit, delete-miss}
-use Rattle.model.proofs.Slots.Invariant.{Link, InsertUnread, unreadSize, Reference, GoodSlots, Invariant, references-step}
+use Rattle.model.proofs.Slots.Invariant.{Link, withEncoder, withNote, InsertUnread, unreadSize, Reference, GoodSlots, Invariant}
+use Rattle.model.proofs.Slots.Invariant.{references-step}
 use Rattle.model.proofs.Slots.Unread.{unread-snoc, numbers-snoc, unreadSize-snoc}
 
 -- ---- the encoder inserts, with a name of its own
 unfoldable pub afterInsert : Link → ℕ → Entry → Link
-afterInsert L k c = record {
-  encoderSlots = setAt k (liveSent c noLists) (L .encoderSlots);
-  encoderFilled = L .encoderFilled + size c;
-  decoder = L .decoder;
-  writtenCount = suc (L .writtenCount);
-  unread = L .unread ++ (record { number = L .writtenCount; note = noteInsert k c } ∷ []);
-  unreadAcks = L .unreadAcks;
-  blocks = L .blocks;
-}
+afterInsert L k c = withNote (withEncoder L (setAt k (liveSent c noLists) (L .encoderSlots)) (L .encoderFilled + size c)) (noteInsert k c)
 
 insert-slots : (enc : ℕ → EncoderSlot) (tab : DecoderSlots) (mq : List SentNote) (aq : List FreedNote) (n k : ℕ) (c : Entry) → enc k ≡ freeSent
     → GoodSlots enc tab mq aq
@@ -75,15 +68,7 @@ insert-invariant L k c h w I = record {
 
 -- ---- the encoder inserts, with the name of a live slot j
 unfoldable pub afterNamed : Link → ℕ → ℕ → Entry → Link
-afterNamed L k j c = record {
-  encoderSlots = setAt k (liveSent c noLists) (L .encoderSlots);
-  encoderFilled = L .encoderFilled + size c;
-  decoder = L .decoder;
-  writtenCount = suc (L .writtenCount);
-  unread = L .unread ++ (record { number = L .writtenCount; note = noteNamed k j c } ∷ []);
-  unreadAcks = L .unreadAcks;
-  blocks = L .blocks;
-}
+afterNamed L k j c = withNote (withEncoder L (setAt k (liveSent c noLists) (L .encoderSlots)) (L .encoderFilled + size c)) (noteNamed k j c)
 
 named-slots : (enc : ℕ → EncoderSlot) (tab : DecoderSlots) (mq : List SentNote) (aq : List FreedNote) (n k j : ℕ) (c x : Entry) (ls : DeleteLists)
     → enc k ≡ freeSent → enc j ≡ liveSent x ls → x .name ≡ c .name → GoodSlots enc tab mq aq
@@ -123,15 +108,7 @@ named-invariant L k j c x ls h l v w I = record {
 
 -- ---- the encoder deletes; the lists written name at least the parts that refer
 unfoldable pub afterDelete : Link → ℕ → Entry → DeleteLists → Link
-afterDelete L k c ls = record {
-  encoderSlots = setAt k (deletedSent c ls) (L .encoderSlots);
-  encoderFilled = L .encoderFilled;
-  decoder = L .decoder;
-  writtenCount = suc (L .writtenCount);
-  unread = L .unread ++ (record { number = L .writtenCount; note = noteDelete k ls } ∷ []);
-  unreadAcks = L .unreadAcks;
-  blocks = L .blocks;
-}
+afterDelete L k c ls = withNote (withEncoder L (setAt k (deletedSent c ls) (L .encoderSlots)) (L .encoderFilled)) (noteDelete k ls)
 
 delete-slots : (enc : ℕ → EncoderSlot) (tab : DecoderSlots) (mq : List SentNote) (aq : List FreedNote) (n k : ℕ) (c : Entry) (ls ls′ : DeleteLists)
     → enc k ≡ liveSent c ls → GoodSlots enc tab mq aq

@@ -5,6 +5,7 @@ use denote.Ref.{now}
 use lib.ListN.{length}
 use Rattle.blocks.specs.Representation.{indexed}
 use Rattle.blocks.specs.Meaning.{FieldMeaning, field}
+use Rattle.blocks.proofs.MeaningHeld.{static-above}
 use Rattle.state.specs.Layout.{countOf}
 use Rattle.search.specs.Search.{findFrom}
 use Rattle.search.specs.declared.find.Found.the-variants.{At}
@@ -21,7 +22,7 @@ row : (c : tie.After-known-told) → let a = c .before .before .before .before .
 row c = sym (c .before .before .before .row-of .ensures) ∙ c .before .f .given .1
 
 here : (c : tie.After-known-told) → let a = c .before .before .before .before .before .before .args in Located (now (a .m)) (a .index .value) (Dynamic (c .before .f .given .0 .0))
-here c = let p = c .before .before .before .before .before .before .pre .0 in dynamic _ (p .0) _ (p .1) _ (row c)
+here c = let p = c .before .before .before .before .before .before .pre .0 in dynamic _ (p .0) _ (static-above _ (p .1)) _ (row c)
 
 means : (c : tie.After-known-told) → let a = c .before .before .before .before .before .before .args in
     fieldOf (now (a .m)) (indexed (a .index .value)) ≡ field (rowField (now (a .m)) (c .before .f .given .0 .0))
@@ -40,7 +41,7 @@ returns : tie.Need-returns
 returns c =
     let start = c .before .before .before .before .before in
     let p = start .pre in
-    let L = dynamic _ (p .0 .0) _ (p .0 .1) _ (sym (c .before .before .row-of .ensures) ∙ c .enum-told .given .1) in
+    let L = dynamic _ (p .0 .0) _ (static-above _ (p .0 .1)) _ (sym (c .before .before .row-of .ensures) ∙ c .enum-told .given .1) in
     absurd (standing _ _ _ (names-entry _ _) Nowhere L (p .1 .0))
 
 write-row-requires : tie.Need-write-row-requires

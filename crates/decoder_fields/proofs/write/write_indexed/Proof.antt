@@ -16,7 +16,7 @@ use Rattle.decoder_fields.proofs.write.write_indexed.Statement.{stateme
 use Rattle.decoder_fields.proofs.write.write_indexed.Tie as tie
 
 at-place : (c : tie.After-place-of) → Located (now (c .before .before .before .before .args .m)) (c .before .before .before .before .args .index .value) (c .place-of .result)
-at-place c = let p = c .before .before .before .before .pre .0 in located _ (p .1) _ (p .2) (c .place-of .ensures)
+at-place c = let p = c .before .before .before .before .pre .0 in located _ (p .1) _ (c .place-of .ensures)
 
 stands : (c : tie.After-place-of) → Here (c .place-of .result)
 stands c = standing _ _ _ (names-entry _ _) (c .place-of .result) (at-place c) (c .before .before .before .before .pre .1 .0)
@@ -31,7 +31,7 @@ means c =
     ∙ sym (ap₂ (λ (n v : List _). field (record { flag = 0; name = n; value = v })) (c .before .name-at .ensures) (c .value-at .ensures))
 
 place-of-requires : tie.Need-place-of-requires
-place-of-requires c κs = changes _ (c .before .before .before .pre .0 .1) .ordered
+place-of-requires c κs = let p = c .before .before .before .pre .0 in (p .2, changes _ (p .1) .ordered)
 
 name-at-requires : tie.Need-name-at-requires
 name-at-requires c κs = let p = c .before .before .before .before .pre .0 in (p .0, (changes _ (p .1) .ordered, at-place c .inside (stands c)))

@@ -16,7 +16,7 @@ use Rattle.decoder_fields.proofs.write.write_named.Statement.{statement
 use Rattle.decoder_fields.proofs.write.write_named.Tie as tie
 
 at-place : (c : tie.After-place-of) → let a = c .before .before .before .before .before .args in Located (now (a .m)) (a .index .value) (c .place-of .result)
-at-place c = let p = c .before .before .before .before .before .pre in located _ (p .0 .1) _ (p .1 .0 .1 .0) (c .place-of .ensures)
+at-place c = let p = c .before .before .before .before .before .pre in located _ (p .0 .1) _ (c .place-of .ensures)
 
 stands : (c : tie.After-place-of) → Here (c .place-of .result)
 stands c = standing _ _ _ (names-name _ _ _ _) (c .place-of .result) (at-place c) (c .before .before .before .before .before .pre .1 .1 .0)
@@ -36,7 +36,7 @@ means c =
     ∙ sym (ap (λ (n : List _). field (record { flag = a .flag; name = n; value = stringBytes (now (a .s)) (a .value) })) (c .name-at .ensures))
 
 place-of-requires : tie.Need-place-of-requires
-place-of-requires c κs = changes _ (c .before .before .before .before .pre .0 .1) .ordered
+place-of-requires c κs = let p = c .before .before .before .before .pre in (p .1 .0 .1 .0, changes _ (p .0 .1) .ordered)
 
 slice-write-out : tie.Need-slice-write-out
 slice-write-out c =

@@ -12,7 +12,7 @@ stands : (c : tie.After-slice-known) → Stands (c .before .args .m .now)
 stands c = record { small = λ k. omega (arith, c .slice-known .given k); forms = c .before .pre .0 .1 }
 
 locate-requires : tie.Need-locate-requires
-locate-requires c κs = changes _ (stands (c .before .before)) .ordered
+locate-requires c κs = (c .before .before .before .pre .0 .2, changes _ (stands (c .before .before)) .ordered)
 
 enum-known-i : tie.Need-enum-known-i
 enum-known-i c = search needs
@@ -22,7 +22,7 @@ insert-by-static-requires c κs =
     let w = c .before .before .before .before in
     let p = w .before .before .before .before .pre in
     let n = name-static _ (stands (w .before .before .before)) _ _ (w .locate .ensures) _ (c .before .before .i .given .1) in
-    ((p .0 .0, p .0 .1, omega (arith, n .1, p .0 .2), n .0), p .1)
+    ((p .0 .0, p .0 .1, n .0 .0, n .0 .1), p .1)
 
 enum-known-row : tie.Need-enum-known-row
 enum-known-row c = search needs

@@ -9,7 +9,7 @@ use Rattle.decoder_survey.proofs.measure.indexed_size.Statement.{statem
 use Rattle.decoder_survey.proofs.measure.indexed_size.Tie as tie
 
 lengths : (c : tie.After-known-told) → Sized (c .before .before .before .before .before .args .m .now) (c .before .before .before .before .before .args .index .value) (c .before .name .given .0 .0) (c .before .name .given .0 .1 .0)
-lengths c = let p = c .before .before .before .before .before .pre in sized _ (p .0) _ (p .1) _ _ (sym (c .before .before .before .entry-lengths .ensures) ∙ c .before .name .given .1)
+lengths c = let p = c .before .before .before .before .before .pre in sized _ (p .0) _ _ _ (sym (c .before .before .before .entry-lengths .ensures) ∙ c .before .name .given .1)
 
 entry-lengths-requires : tie.Need-entry-lengths-requires
 entry-lengths-requires c κs = search needs

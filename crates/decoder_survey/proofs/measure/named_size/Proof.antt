@@ -10,7 +10,7 @@ use Rattle.decoder_survey.proofs.measure.named_size.Statement.{statemen
 use Rattle.decoder_survey.proofs.measure.named_size.Tie as tie
 
 lengths : (c : tie.After-known-told) → Sized (c .before .before .before .before .before .before .args .m .now) (c .before .before .before .before .before .before .args .index .value) (c .before .name .given .0 .0) (c .before .name .given .0 .1 .0)
-lengths c = let p = c .before .before .before .before .before .before .pre in sized _ (p .0) _ (p .1 .1 .0) _ _ (sym (c .before .before .before .entry-lengths .ensures) ∙ c .before .name .given .1)
+lengths c = let p = c .before .before .before .before .before .before .pre in sized _ (p .0) _ _ _ (sym (c .before .before .before .entry-lengths .ensures) ∙ c .before .name .given .1)
 
 entry-lengths-requires : tie.Need-entry-lengths-requires
 entry-lengths-requires c κs = search needs

@@ -1,16 +1,13 @@
 use borrow.Author.Needs.{needs}
-use mathlib.Core.Path.{sym, ap, _∙_}
-use borrow.Author.Tests.{le-leb, lt-leb}
-use Rattle.memory.proofs.Order.{pick-true, pick-false}
-use Rattle.search.specs.Place.{locate, placeFound}
+use mathlib.Core.Path.{sym, _∙_}
+use Rattle.search.proofs.Locating.{locate-static, locate-above}
 use Rattle.search.proofs.place.locate.Statement.{statement}
 use Rattle.search.proofs.place.locate.Tie as tie
 
 -- `search::place::locate` meets its contract: the definition's test, and then what is found.
 
 returns : tie.Need-returns
-unfolding locate
-returns c = sym (pick-true _ _ _ (le-leb _ _ (c .if1 .taken)))
+returns c = sym (locate-static _ _ (c .before .before .before .pre .0) (c .if1 .taken))
 
 find-requires : tie.Need-find-requires
 find-requires c κs = search needs
@@ -22,16 +19,14 @@ enum-told : tie.Need-enum-told
 enum-told c = search needs
 
 returns-2 : tie.Need-returns-2
-unfolding locate
 returns-2 c =
     let above = c .before .before .before .before .if1 .left in
-    sym (pick-false _ _ _ (lt-leb _ _ above) ∙ ap placeFound (sym (c .before .before .before .find .ensures) ∙ c .before .i .given .1))
+    sym (locate-above _ _ above (sym (c .before .before .before .find .ensures) ∙ c .before .i .given .1))
 
 returns-3 : tie.Need-returns-3
-unfolding locate
 returns-3 c =
     let above = c .before .before .before .if1 .left in
-    sym (pick-false _ _ _ (lt-leb _ _ above) ∙ ap placeFound (sym (c .before .before .find .ensures) ∙ c .enum-told .given .1))
+    sym (locate-above _ _ above (sym (c .before .before .find .ensures) ∙ c .enum-told .given .1))
 
 pub locate-spec : {M : Type 1} → statement M
 locate-spec = tie.close (tie.spec returns find-requires enum-known-i enum-told returns-2 returns-3)

@@ -1,10 +1,11 @@
--- How an encoder's call on memory changes a horizon is how the model's call does.
--- By reading back the block that was written: it names the indexes that the model's block names.
+-- One more than the highest stream that refers to an entry since its insert, by the calls, is the horizon that the model raises.
+-- By reading back the block that was written: it names the indexes that the model's block names; then along the calls.
 use mathlib.Core.Path.{_≡_, refl, ap, ap₂, _∙_}
 use Prim.Native.Nat.{ℕ, suc, max}
+use native.Mathlib.Nat.{max-comm}
 use native.Mathlib.Omega.{arith}
 use mathlib.Core.Bool.{Bool, true, false, _&&_, and-false}
-use mathlib.Core.List.{List}
+use mathlib.Core.List.{List, [], _∷_}
 use lib.ListN.{length}
 use lib.Dec.{eqb}
 use Rattle.memory.specs.Choice.{pick}
@@ -31,14 +32,16 @@ use Rattle.model.specs.Promises.{Tells}
 use Rattle.model.proofs.EncoderWays.{block-ways}
 use Rattle.model.proofs.Saying.{choices-fine}
 use Rattle.model.proofs.Answers.{encoder-refused, encoded-told}
-use Rattle.state_laws.proofs.EncoderLaws.{encoder-laws}
 use Rattle.parts.specs.Turn.{partTurn}
 use Rattle.reply.specs.Result.{Result}
-use Rattle.link.specs.Calls.{EncoderCall, encoderResult, EncoderBytes}
+use Rattle.link.specs.Calls.{EncoderCall, encoderResult, EncoderBytes, AllEncoderBytes, doneBytes}
 use Rattle.link.specs.Calls as calls
-use Rattle.link.specs.Claims.{doneBytes, blockIndexes, indexesOf, horizonAfter}
+use Rattle.link.specs.Histories.{blockIndexes, indexesOf, referringBy, referringSince, horizonOf}
 use Rattle.link.proofs.Lifted.{StandsEncoder, LiftedEncoder, readListCall, acknowledgedCall, encoderCallOf}
 use Rattle.link.proofs.DoneBytes.{done-bytes}
+use Rattle.link.proofs.EncoderLifting.{lift-encoder}
+use Rattle.link.proofs.Runs.{encoderCallsOf}
+use Rattle.link.proofs.EncoderTables.{stands-forms}
 
 -- two tests, one after the other or at once
 pick-and : {X : Type 0} (a b : Bool) (x y : X) → pick (a && b) x y ≡ pick a (pick b x y) y
@@ -106,16 +109,44 @@ acknowledge-horizon i p h E (Found (Delete j plain last) taken) = refl
 acknowledge-horizon i p h E (Found (Acknowledge j) taken) = refl
 acknowledge-horizon i p h E (Refused number) = refl
 
-pub call-horizon : (i : ℕ) (p : Part) (h : ℕ) (m : List ℕ) (E : Encoder) (c : EncoderCall) → EncoderBytes c → StandsEncoder m E
-    → LiftedEncoder E c (encoderResult m c) → horizonAfter i p h m c ≡ model.horizonAfter i p h E (encoderCallOf E c)
-unfolding horizonAfter model.horizonAfter begunBy encoderCallOf
-call-horizon i p h m E (calls.EncoderCall.insert name value out) b stands L =
-    ap (λ (a : Answer). pick (eqb (a .number) 0 && eqb (a .second) i) 0 h) (L .answer)
-    ∙ pick-and (eqb (at-encoder.encoderCall E (at-encoder.insert name value (length out)) .answer .number) 0)
-    (eqb (at-encoder.encoderCall E (at-encoder.insert name value (length out)) .answer .second) i) 0 h
-call-horizon i p h m E (calls.EncoderCall.delete index out) b stands L = refl
-call-horizon i p h m E (calls.EncoderCall.block stream part s out) b stands L =
-    block-left i p h E (rw (stands .state) at (encoder-laws .fits m (stands .small) (stands .forms) .forms)) stream part
-    (encoderResult m (calls.EncoderCall.block stream part s out)) out (partTurn (E .written) stream (partOf part)) (readList s)
+-- ---- the horizon of streams
+horizon-begun : (b : Bool) (ss : List ℕ) → horizonOf (pick b [] ss) ≡ pick b 0 (horizonOf ss)
+unfolding horizonOf
+horizon-begun true ss = refl
+horizon-begun false ss = refl
+
+horizon-added : (b : Bool) (s : ℕ) (ss : List ℕ) → horizonOf (pick b (s ∷ ss) ss) ≡ pick b (max (horizonOf ss) (suc s)) (horizonOf ss)
+unfolding horizonOf
+horizon-added true s ss = max-comm (suc s) (horizonOf ss)
+horizon-added false s ss = refl
+
+-- ---- every call
+call-horizon : (i : ℕ) (p : Part) (ss : List ℕ) (m : List ℕ) (E : Encoder) (c : EncoderCall) → EncoderBytes c → StandsEncoder m E
+    → LiftedEncoder E c (encoderResult m c)
+    → horizonOf (referringBy i p ss m c) ≡ model.horizonAfter i p (horizonOf ss) E (encoderCallOf E c)
+unfolding referringBy model.horizonAfter begunBy encoderCallOf
+call-horizon i p ss m E (calls.EncoderCall.insert name value out) b stands L =
+    let h = horizonOf ss in
+    let o = at-encoder.encoderCall E (at-encoder.insert name value (length out)) in
+    let a = encoderResult m (calls.EncoderCall.insert name value out) .answer in
+    horizon-begun (eqb (a .number) 0 && eqb (a .second) i) ss
+    ∙ ap (λ (a : Answer). pick (eqb (a .number) 0 && eqb (a .second) i) 0 h) (L .answer)
+    ∙ pick-and (eqb (o .answer .number) 0) (eqb (o .answer .second) i) 0 h
+call-horizon i p ss m E (calls.EncoderCall.delete index out) b stands L = refl
+call-horizon i p ss m E (calls.EncoderCall.block stream part s out) b stands L =
+    let r = encoderResult m (calls.EncoderCall.block stream part s out) in
+    horizon-added (eqb (r .answer .number) 0 && (eqb part (partNumber p) && mentions (blockIndexes (doneBytes r)) i)) stream ss
+    ∙ block-left i p (horizonOf ss) E (stands-forms m E stands) stream part r out (partTurn (E .written) stream (partOf part)) (readList s)
     (λ fs e. list-forth s (b .0) fs e .1) (L .answer, L .output)
-call-horizon i p h m E (calls.EncoderCall.acknowledge s) b stands L = acknowledge-horizon i p h E (readForEncoder s)
+call-horizon i p ss m E (calls.EncoderCall.acknowledge s) b stands L = acknowledge-horizon i p (horizonOf ss) E (readForEncoder s)
+
+pub horizon-since : (i : ℕ) (p : Part) (ss : List ℕ) (m : List ℕ) (E : Encoder) → StandsEncoder m E → (cs : List EncoderCall) → AllEncoderBytes cs
+    → horizonOf (referringSince i p ss m cs) ≡ model.horizonSince i p (horizonOf ss) E (encoderCallsOf E cs)
+unfolding referringSince model.horizonSince encoderCallsOf
+horizon-since i p ss m E S [] b = refl
+horizon-since i p ss m E S (c ∷ cs) b =
+    let L = lift-encoder m E S c (b .0) in
+    let next = at-encoder.encoderCall E (encoderCallOf E c) .state in
+    horizon-since i p (referringBy i p ss m c) (encoderResult m c .memory) _ (L .stands) cs (b .1)
+    ∙ ap (λ (k : ℕ). model.horizonSince i p k next (encoderCallsOf next cs))
+    (call-horizon i p ss m E c (b .0) S L)
