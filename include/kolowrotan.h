@@ -32,6 +32,9 @@
 extern "C" {
 #endif
 
+/* The version of the library that this header belongs to: major, minor, patch. */
+#define KOLOWROTAN_VERSION "1.0.0"
+
 /* The answers. */
 enum kolowrotan_answer {
     KOLOWROTAN_DONE = 0,
