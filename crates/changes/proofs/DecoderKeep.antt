@@ -9,7 +9,7 @@ use Rattle.memory.specs.Numbers.{numberBytes}
 use Rattle.memory.proofs.Overlay.{overlay-append}
 use Rattle.model.specs.Parts.{Delete}
 use Rattle.model.specs.Decoder.{heldIndex, Decoder}
-use Rattle.model.proofs.DecoderWays.{withDelete}
+use Rattle.model_laws.proofs.DecoderWays.{withDelete}
 use Rattle.state.specs.Layout.{deletesPlace, deletePlace, statusAt}
 use Rattle.state.specs.Rows.{Row}
 use Rattle.state.specs.Front.{Front, withRows, withDeletes, overlayFront}

@@ -12,7 +12,7 @@ use Rattle.memory.proofs.Order.{pick-true, pick-false}
 use Rattle.model.specs.Table.{look}
 use Rattle.model.specs.Parts.{Delete}
 use Rattle.model.specs.Decoder.{deleteIndex}
-use Rattle.model.proofs.Tables.{pick-eq, pick-yes, pick-no, look-none}
+use Rattle.model_laws.proofs.Tables.{pick-eq, pick-yes, pick-no, look-none}
 use Rattle.state.specs.DecoderState.{placeFrom}
 use Rattle.changes.proofs.Finding.{FoundAt, found-here, found-next}
 

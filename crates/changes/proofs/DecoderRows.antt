@@ -10,7 +10,7 @@ use Rattle.memory.specs.Choice.{pick}
 use Rattle.model.specs.Table.{look, cut}
 use Rattle.model.specs.Parts.{Delete}
 use Rattle.model.specs.Decoder.{Held, heldIndex, deleteIndex}
-use Rattle.model.proofs.Tables.{pick-eq, pick-yes, pick-no, look-none}
+use Rattle.model_laws.proofs.Tables.{pick-eq, pick-yes, pick-no, look-none}
 use Rattle.state.specs.Rows.{Row}
 use Rattle.state.specs.DecoderState.{placeFrom, rowOfHeld}
 use Rattle.state_laws.proofs.Pointing.{pointed, pointed-few}

@@ -13,7 +13,7 @@ use Rattle.memory.proofs.Places.{has-right}
 use Rattle.model.specs.Table.{look}
 use Rattle.model.specs.Parts.{Delete}
 use Rattle.model.specs.Decoder.{Held, heldIndex, deleteIndex, Decoder, heldSize, isSome}
-use Rattle.model.proofs.Tables.{pick-yes, look-index, look-cut}
+use Rattle.model_laws.proofs.Tables.{pick-yes, look-index, look-cut}
 use Rattle.hold.specs.Hold.{GoodDelete}
 use Rattle.state.specs.Layout.{deletePlace, heldOf, countOf, deleteCount, statusAt}
 use Rattle.state.specs.Rows.{Row, rowsSize}

@@ -12,8 +12,8 @@ use Rattle.memory.specs.Compare.{same}
 use Rattle.memory.proofs.Order.{pick-both, pick-true, pick-false}
 use Rattle.model.specs.Table.{Ascending, look, lowest, vacantFrom}
 use Rattle.model.specs.Encoder.{Sent, sentIndex, Encoder, sentSize, serves, servesBoth}
-use Rattle.model.proofs.Tables.{nope, pick-eq, pick-yes, pick-no}
-use Rattle.model.proofs.Marks.{and-both}
+use Rattle.model_laws.proofs.Tables.{nope, pick-eq, pick-yes, pick-no}
+use Rattle.model_laws.proofs.Marks.{and-both}
 use Rattle.state.specs.Layout.{limitOf, heldOf, countOf, indexAt, statusAt}
 use Rattle.state.specs.Rows.{Row as TableRow, rowIndex, rowsOf, nameAt, valueAt}
 use Rattle.state.specs.EncoderState.{sentOfRow, rowOfSent, encoderOf, encoderFront}

@@ -6,7 +6,7 @@ use native.Mathlib.Omega.{arith}
 use mathlib.Core.Option.{none}
 use mathlib.Core.List.{List, [], _∷_, _++_, map}
 use Rattle.model.specs.Table.{Ascending, look}
-use Rattle.model.proofs.Tables.{look-none, look-below}
+use Rattle.model_laws.proofs.Tables.{look-none, look-below}
 use Rattle.state_laws.proofs.Each.{Each}
 
 module _ {X : Type 0} (P : X → Type 0) where

@@ -11,7 +11,7 @@ use Rattle.marks.specs.Marks.{cleared}
 use Rattle.model.specs.Table.{Ascending, look, put, cut}
 use Rattle.model.specs.Parts.{Part, mark, streams}
 use Rattle.model.specs.Encoder.{Sent, sentIndex, Encoder, startEncoder, withSent, withWritten, newSent, FineSent, asDeleted, deleteAt, referred}
-use Rattle.model.proofs.Tables.{pick-yes, pick-no}
+use Rattle.model_laws.proofs.Tables.{pick-yes, pick-no}
 use Rattle.state.specs.Layout.{encoderRole, marksPlace, heldOf, countOf}
 use Rattle.state.specs.Rows.{Row, rowsSize}
 use Rattle.state.specs.Front.{Front, withRows, withMarks, overlayFront}

@@ -11,7 +11,7 @@ use borrow.Author.Tests.{lt-ltb, le-ltb}
 use Rattle.memory.specs.Choice.{pick}
 use Rattle.memory.proofs.Order.{pick-true, pick-false}
 use Rattle.model.specs.Table.{Ascending, look, put, cut}
-use Rattle.model.proofs.Tables.{nope, pick-eq, pick-lt, pick-yes, pick-no, look-below}
+use Rattle.model_laws.proofs.Tables.{nope, pick-eq, pick-lt, pick-yes, pick-no, look-below}
 use Rattle.state.specs.Layout.{countOf, indexAt}
 use Rattle.state.specs.Rows.{Row, textOf}
 use Rattle.state.specs.Front.{Front}

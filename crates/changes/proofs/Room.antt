@@ -7,7 +7,7 @@ use mathlib.Core.Bool.{true}
 use mathlib.Core.List.{List}
 use lib.Dec.{eqb, leb}
 use Rattle.integers.specs.Integer.{largest}
-use Rattle.model.proofs.Marks.{and-both}
+use Rattle.model_laws.proofs.Marks.{and-both}
 use Rattle.state.specs.Layout.{decoderLength, decoderRole, encoderLength, encoderRole, heldOf, countOf, deleteCount}
 use Rattle.state.specs.Forms.{headOk, rowsOk, statusOk, referenceOk, formsDecoder, formsEncoder}
 use Rattle.state_laws.proofs.RowsTest.{rows-within}

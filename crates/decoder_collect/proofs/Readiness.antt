@@ -9,7 +9,7 @@ use lib.Dec.{eqb}
 use borrow.Author.Tests.{eq-eqb, ne-eqb}
 use Rattle.memory.proofs.Order.{split, either, pick-both, pick-false, not-both}
 use Rattle.model.specs.Parts.{Part, nontrailer, trailer, Marks, Delete, namesPart, isOpen, lowestOpen, streams, isReady}
-use Rattle.model.proofs.Marks.{OpenPart, ready-marked, ready-or}
+use Rattle.model_laws.proofs.Marks.{OpenPart, ready-marked, ready-or}
 
 module _ (marks : Marks) (d : Delete) where
   abbrev openAt : ℕ → Bool

@@ -11,8 +11,8 @@ use Rattle.instructions.specs.Instruction.{FineIndex}
 use Rattle.model.specs.Table.{lowest}
 use Rattle.model.specs.Parts.{isReady}
 use Rattle.model.specs.Decoder.{Held, heldIndex, readyDelete, ready, nextFreed, FormsDecoder}
-use Rattle.model.proofs.Forms.{freed-held}
-use Rattle.model.proofs.Tables.{pick-yes, pick-no}
+use Rattle.model_laws.proofs.Forms.{freed-held}
+use Rattle.model_laws.proofs.Tables.{pick-yes, pick-no}
 use Rattle.state.specs.Layout.{countOf, indexAt, statusAt}
 use Rattle.state.specs.Rows.{Row as TableRow, rowIndex, rowsOf}
 use Rattle.state.specs.Front.{marksOf}

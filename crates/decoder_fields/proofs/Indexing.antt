@@ -18,7 +18,7 @@ use Rattle.blocks.specs.declared.read.RepresentationPlace.the-variants.{Indexed
 use Rattle.blocks.specs.declared.read.RepresentationRead.{RepresentationRead}
 use Rattle.blocks.specs.declared.read.RepresentationRead.the-variants.{Found, Refused}
 use Rattle.blocks.proofs.Equations.{literal-name-refused, literal-value-refused, literal-found, representation-literal}
-use Rattle.model.proofs.Tables.{nope}
+use Rattle.model_laws.proofs.Tables.{nope}
 use Rattle.decoder_fields.specs.Indexes.{indexIn, IsLiteral}
 use Rattle.decoder_fields.specs.declared.write.IndexedRead.the-variants.{Entry, Other}
 

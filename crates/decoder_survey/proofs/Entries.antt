@@ -18,7 +18,7 @@ use Rattle.blocks.specs.Meaning.{Slot, vacant, holds, isStatic}
 use Rattle.blocks.proofs.MeaningHeld.{static-within, static-above, within-static, static-slot, dynamic-slot}
 use Rattle.model.specs.Table.{look}
 use Rattle.model.specs.Decoder.{heldIndex, slotIn, lookup}
-use Rattle.model.proofs.Tables.{nope}
+use Rattle.model_laws.proofs.Tables.{nope}
 use Rattle.state.specs.Layout.{countOf, offsetAt, nameLengthAt, valueLengthAt}
 use Rattle.state.specs.DecoderState.{decoderOf}
 use Rattle.state_laws.proofs.DecoderLaws.{decoder-laws}

@@ -18,7 +18,7 @@ use Rattle.blocks.proofs.Fuel.{prefixed, read-at, at-end, at-refused, at-more}
 use Rattle.blocks.proofs.Bounds.{representation-good}
 use Rattle.blocks.proofs.MeaningLaws.{meaning-nil, meaning-cons}
 use Rattle.model.specs.Decoder.{lookup}
-use Rattle.model.proofs.Tables.{nope}
+use Rattle.model_laws.proofs.Tables.{nope}
 use Rattle.state.specs.DecoderState.{decoderOf}
 use Rattle.decoder_survey.specs.declared.measure.Measured.{Measured}
 use Rattle.decoder_survey.specs.declared.measure.Measured.the-variants.{Bytes as MeasuredBytes, Waits as MeasuredWaits}

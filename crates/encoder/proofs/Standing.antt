@@ -14,8 +14,8 @@ use Rattle.integers.specs.Answers.{refusal}
 use Rattle.model.specs.Table.{look}
 use Rattle.model.specs.Outcome.{outputBytes, refuse}
 use Rattle.model.specs.Encoder.{sentIndex}
-use Rattle.model.proofs.Marks.{and-both}
-use Rattle.model.proofs.Tables.{look-index}
+use Rattle.model_laws.proofs.Marks.{and-both}
+use Rattle.model_laws.proofs.Tables.{look-index}
 use Rattle.state.specs.Layout.{encoderLength, encoderRole, limitOf, countOf, deleteCount, indexAt, statusAt}
 use Rattle.state.specs.EncoderState.{plainAt, trailerAt, sentOfRow, encoderOf, overlayEncoder}
 use Rattle.state.specs.Forms.{headOk, referenceOk, formsEncoder}

@@ -21,8 +21,8 @@ use Rattle.model.specs.Table.{lowest}
 use Rattle.model.specs.Parts.{Part, nontrailer, trailer, streams}
 use Rattle.model.specs.Encoder.{Sent, sentIndex, Encoder, mentions, referred, refer, serves, servesBoth}
 use Rattle.model.specs.Encoder.{dynamicName, staticName, chooseName, dynamicField, staticField, choose}
-use Rattle.model.proofs.Order.{refer-index}
-use Rattle.model.proofs.SentChanges.{refer-entry}
+use Rattle.model_laws.proofs.Order.{refer-index}
+use Rattle.model_laws.proofs.SentChanges.{refer-entry}
 use Rattle.state.specs.EncoderState.{encoderOf, overlayEncoder}
 use Rattle.state.specs.Forms.{formsEncoder}
 use Rattle.state_laws.proofs.EncoderLaws.{encoder-laws}

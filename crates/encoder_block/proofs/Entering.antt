@@ -21,10 +21,10 @@ use Rattle.model.specs.Table.{look}
 use Rattle.model.specs.Parts.{Part, nontrailer, trailer, mark, streams}
 use Rattle.model.specs.Decoder.{isSome}
 use Rattle.model.specs.Encoder.{Sent, sentIndex, Encoder, withSent, withWritten, FineSent, refer}
-use Rattle.model.proofs.Tables.{nope, pick-eq, pick-lt, pick-yes, pick-no, look-index, look-map}
-use Rattle.model.proofs.DecoderWays.{some-found}
-use Rattle.model.proofs.Order.{refer-index}
-use Rattle.model.proofs.SentChanges.{refer-entry, refer-fine, sent-map}
+use Rattle.model_laws.proofs.Tables.{nope, pick-eq, pick-lt, pick-yes, pick-no, look-index, look-map}
+use Rattle.model_laws.proofs.DecoderWays.{some-found}
+use Rattle.model_laws.proofs.Order.{refer-index}
+use Rattle.model_laws.proofs.SentChanges.{refer-entry, refer-fine, sent-map}
 use Rattle.state.specs.Layout.{marksPlace}
 use Rattle.state.specs.Rows.{Row}
 use Rattle.state.specs.EncoderState.{rowOfSent, encoderOf, encoderFront, overlayEncoder}

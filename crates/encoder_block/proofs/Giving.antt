@@ -21,8 +21,8 @@ use Rattle.blocks.specs.Representation.{Representation, blockWire}
 use Rattle.model.specs.Parts.{Part, nontrailer, trailer, partOf, Marks, inTurn, streams}
 use Rattle.model.specs.Outcome.{Outcome, refuse, outputBytes}
 use Rattle.model.specs.Encoder.{Encoder, choose, writePart, encodePart, encodeBlock}
-use Rattle.model.proofs.Tables.{nope, pick-eq, pick-yes, pick-no}
-use Rattle.model.proofs.Marks.{and-both}
+use Rattle.model_laws.proofs.Tables.{nope, pick-eq, pick-yes, pick-no}
+use Rattle.model_laws.proofs.Marks.{and-both}
 use Rattle.state.specs.Layout.{marksPlace}
 use Rattle.state.specs.Front.{marksOf}
 use Rattle.state.specs.EncoderState.{encoderOf, overlayEncoder}

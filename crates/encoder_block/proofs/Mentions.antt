@@ -13,8 +13,8 @@ use Rattle.blocks.specs.Representation.{Representation}
 use Rattle.blocks.specs.Meaning.{references, blockReferences}
 use Rattle.model.specs.Parts.{Part, nontrailer, trailer}
 use Rattle.model.specs.Encoder.{Sent, withPlain, withTrailer, mentions, referred, refer}
-use Rattle.model.proofs.Tables.{pick-yes, pick-no}
-use Rattle.model.proofs.Order.{refer-index}
+use Rattle.model_laws.proofs.Tables.{pick-yes, pick-no}
+use Rattle.model_laws.proofs.Order.{refer-index}
 use Rattle.state.specs.EncoderState.{rowOfSent}
 use Rattle.changes.specs.EncoderChanges.{referredAt}
 use Rattle.changes.proofs.EncoderReferences.{referred-index, referred-row}

@@ -16,7 +16,7 @@ use Rattle.fields.specs.Form.{Field}
 use Rattle.blocks.specs.Representation.{indexed, literal}
 use Rattle.model.specs.Table.{lowest}
 use Rattle.model.specs.Encoder.{Sent, sentIndex, serves, servesBoth, dynamicName, staticName, chooseName, dynamicField, staticField, choose}
-use Rattle.model.proofs.Tables.{pick-yes, pick-no}
+use Rattle.model_laws.proofs.Tables.{pick-yes, pick-no}
 use Rattle.state.specs.Layout.{countOf, indexAt}
 use Rattle.state.specs.EncoderState.{sentOfRow, encoderOf}
 use Rattle.state.specs.Forms.{formsEncoder}

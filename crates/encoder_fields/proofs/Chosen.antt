@@ -20,7 +20,7 @@ use Rattle.blocks.specs.Meaning.{references, blockReferences}
 use Rattle.model.specs.Table.{look, lowest}
 use Rattle.model.specs.Decoder.{isSome}
 use Rattle.model.specs.Encoder.{Sent, sentIndex, Encoder, serves, servesBoth, dynamicName, staticName, chooseName, dynamicField, staticField, choose, FormsEncoder}
-use Rattle.model.proofs.Tables.{lowest-sound}
+use Rattle.model_laws.proofs.Tables.{lowest-sound}
 use Rattle.encoder_fields.specs.Refer.{AllHeld}
 
 module _ (E : Encoder) (F : FormsEncoder E) where

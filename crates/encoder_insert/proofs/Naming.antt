@@ -14,7 +14,7 @@ use Rattle.statics.specs.declared.search.StaticFound.the-variants.{At, Nothing 
 use Rattle.statics.proofs.Finding.{name-found}
 use Rattle.model.specs.Table.{lowest}
 use Rattle.model.specs.Encoder.{Sent, sentIndex, serves, dynamicName, staticName, chooseName}
-use Rattle.model.proofs.Tables.{lowest-sound}
+use Rattle.model_laws.proofs.Tables.{lowest-sound}
 use Rattle.state.specs.Layout.{countOf, indexAt}
 use Rattle.state.specs.EncoderState.{sentOfRow, encoderOf}
 use Rattle.state.specs.Forms.{formsEncoder}

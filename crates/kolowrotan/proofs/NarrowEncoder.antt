@@ -25,7 +25,7 @@ use Rattle.model.specs.Parts.{Part, partOf, inTurn, streams}
 use Rattle.model.specs.Outcome.{Outcome, refuse}
 use Rattle.model.specs.Encoder.{Sent, sentIndex, Encoder, sentSize, choose, chooseName, insertAt, insertEntry, deleteOfSent, deleteFound, deleteSent}
 use Rattle.model.specs.Encoder.{writePart, encodePart, encodeBlock, acknowledgeFound, readAck}
-use Rattle.model.proofs.Tables.{vacant-high}
+use Rattle.model_laws.proofs.Tables.{vacant-high}
 use Rattle.state.specs.Layout.{encoderLength}
 use Rattle.state.specs.EncoderState.{encoderOf, overlayEncoder}
 use Rattle.state.specs.Forms.{formsEncoder}

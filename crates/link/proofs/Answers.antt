@@ -1,22 +1,23 @@
 -- Demand 1, the answers: of every call, on whatever memory. Memory that forms no state refuses; else the call is the model's step laid over memory,
 -- and the model's promises, what it may answer and the length of a state say the rest.
 use mathlib.Core.Path.{_≡_, refl, sym, subst}
-use Prim.Native.Nat.{ℕ, _≤_}
+use mathlib.Core.Logic.{_↔_}
+use Prim.Native.Nat.{ℕ, _≤_, _<_}
 use native.Mathlib.Omega.{arith}
-use mathlib.Core.Bool.{false}
+use mathlib.Core.Bool.{Bool, true, false}
 use mathlib.Core.List.{List, []}
 use lib.ListN.{length}
 use lib.Dec.{T, leb}
-use borrow.Author.Tests.{leb-true}
+use borrow.Author.Tests.{leb-true, leb-false}
 use Rattle.memory.specs.Bytes.{Small}
-use Rattle.memory.proofs.Order.{either, need-both, need-false}
+use Rattle.memory.proofs.Order.{either, not-both, need-both, need-false}
 use Rattle.integers.specs.Answers.{over-limit, no-room, no-state}
 use Rattle.model.specs.Outcome.{nothing, Outcome}
 use Rattle.model.specs.Decoder.{Decoder, startDecoder}
 use Rattle.model.specs.DecoderCalls.{decoderCall}
 use Rattle.model.specs.Encoder.{Encoder, startEncoder}
 use Rattle.model.specs.EncoderCalls.{encoderCall}
-use Rattle.model.proofs.Promises.{promises}
+use Rattle.model_laws.proofs.Promises.{promises}
 use Rattle.state.specs.Layout.{decoderLength, encoderLength}
 use Rattle.state.specs.DecoderState.{decoderOf, overlayDecoder}
 use Rattle.state.specs.EncoderState.{encoderOf, overlayEncoder}
@@ -34,7 +35,7 @@ use Rattle.model.specs.Parts.{ended}
 use Rattle.link.specs.Calls.{DecoderCall, decoderResult, decoderLent, DecoderBytes, EncoderCall, encoderResult, encoderLent, EncoderBytes}
 use Rattle.link.specs.Calls.{Call, decoderStart, atDecoder, encoderStart, atEncoder, resultOf, CallBytes}
 use Rattle.link.specs.Calls as calls
-use Rattle.link.specs.Answers.{AnswersClaim}
+use Rattle.link.specs.Answers.{AnswersClaim, Starts}
 use Rattle.link.proofs.Lifted.{decoderCallOf, encoderCallOf}
 use Rattle.link.proofs.StatesKept.{KeptDecoder, kept-start-decoder, KeptEncoder, kept-start-encoder}
 use Rattle.link.proofs.DecoderLifting.{long-decoder, same-decoder, kept-next-decoder}
@@ -64,6 +65,23 @@ no-decoder m e (calls.DecoderCall.close ended stream) = need-false (formsDecoder
 no-decoder m e (calls.DecoderCall.collect out) = need-false (formsDecoder m) _ _ e
 no-decoder m e (calls.DecoderCall.hold index) = need-false (formsDecoder m) _ _ e
 
+-- 17 exactly where memory forms no state
+first-none : (forms : Bool) → forms ≡ false → (no-state ≡ 17) ↔ (forms ≡ false)
+first-none forms e = (λ z. e, λ z. refl)
+
+first-some : (forms : Bool) (number : ℕ) → forms ≡ true → (number ≡ no-state → ⊥) → (number ≡ 17) ↔ (forms ≡ false)
+first-some forms number e f = (λ z. absurd (f z), λ z. not-both forms e z)
+
+-- a start: 7, then 12
+starts-over : (limit bytes : ℕ) (m : List ℕ) → 4096 < limit → Starts limit bytes m over-limit
+starts-over limit bytes m h = ((λ z. h, λ z. refl), (λ z. absurd (omega (arith, z)), λ z. absurd (omega (arith, h, z .0))), (λ z. absurd (omega (arith, z)), λ z. absurd (omega (arith, h, z .0))))
+
+starts-short : (limit bytes : ℕ) (m : List ℕ) → limit ≤ 4096 → length m < bytes → Starts limit bytes m no-room
+starts-short limit bytes m h k = ((λ z. absurd (omega (arith, z)), λ z. absurd (omega (arith, h, z))), (λ z. (h, k), λ z. refl), (λ z. absurd (omega (arith, z)), λ z. absurd (omega (arith, k, z .1))))
+
+starts-done : (limit bytes : ℕ) (m : List ℕ) → limit ≤ 4096 → bytes ≤ length m → Starts limit bytes m 0
+starts-done limit bytes m h k = ((λ z. absurd (omega (arith, z)), λ z. absurd (omega (arith, h, z))), (λ z. absurd (omega (arith, z)), λ z. absurd (omega (arith, k, z .1))), (λ z. (h, k), λ z. refl))
+
 -- 17 is in each call's list
 no-state-decoder : (c : DecoderCall) → T (refuses (atDecoder c) no-state)
 no-state-decoder (calls.DecoderCall.read s) = tt
@@ -80,20 +98,22 @@ decoder-leaves m small c b =
     (λ e. subst (Leaves (atDecoder c) m) (sym (same-decoder m small e c))
     (stepped-leaves (atDecoder c) m overlayDecoder D o (decoder-laws .self m small e)
     (laid-decoder (o .state) m (long-decoder m small e) (kept-next-decoder m small e c b)) (promises .decoder-refused D (decoderCallOf D c))
-    (decoder-writes D c) (decoder-says D (decoder-laws .fits m small e .forms) c)))
-    (λ e. subst (Leaves (atDecoder c) m) (sym (no-decoder m e c)) (refused-leaves (atDecoder c) m no-state (no-state-decoder c)))
+    (decoder-writes D c) (decoder-says D (decoder-laws .fits m small e .forms) c)
+    (first-some (formsDecoder m) (o .answer .number) e (decoder-says D (decoder-laws .fits m small e .forms) c .standing))))
+    (λ e. subst (Leaves (atDecoder c) m) (sym (no-decoder m e c)) (refused-leaves (atDecoder c) m no-state (no-state-decoder c) (first-none (formsDecoder m) e)))
 
 decoder-starts : (m : List ℕ) (limit : ℕ) → Leaves (decoderStart limit) m (decoder.startCall m limit)
 unfolding decoder.startCall
 decoder-starts m limit =
     let c : Call = decoderStart limit in
     need-both (Leaves c m) (leb limit 4096) (refused m [] over-limit) _
-    (λ e. refused-leaves c m over-limit tt)
+    (λ e. refused-leaves c m over-limit tt (starts-over limit decoderLength m (leb-false limit 4096 e)))
     (λ e. need-both (Leaves c m) (leb decoderLength (length m)) (refused m [] no-room) _
-    (λ d. refused-leaves c m no-room tt)
+    (λ d. refused-leaves c m no-room tt (starts-short limit decoderLength m (leb-true limit 4096 e) (leb-false decoderLength (length m) d)))
     (λ d. started-leaves c m (overlayDecoder (startDecoder limit) m) refl
     (both-say c m 0 0 nothing refl (λ z. refl) (λ z. refl) tt (omega arith) (omega arith))
-    (laid-decoder (startDecoder limit) m (leb-true decoderLength (length m) d) (kept-start-decoder limit (leb-true limit 4096 e)))))
+    (laid-decoder (startDecoder limit) m (leb-true decoderLength (length m) d) (kept-start-decoder limit (leb-true limit 4096 e)))
+    (starts-done limit decoderLength m (leb-true limit 4096 e) (leb-true decoderLength (length m) d))))
 
 -- ---- the encoder
 
@@ -125,20 +145,22 @@ encoder-leaves m small c b =
     (λ e. subst (Leaves (atEncoder c) m) (sym (same-encoder m small e c))
     (stepped-leaves (atEncoder c) m overlayEncoder E o (encoder-laws .self m small e)
     (laid-encoder (o .state) m (long-encoder m small e) (kept-next-encoder m small e c b)) (promises .encoder-refused E (encoderCallOf E c))
-    (encoder-writes E c) (encoder-says E (encoder-laws .fits m small e .forms) c)))
-    (λ e. subst (Leaves (atEncoder c) m) (sym (no-encoder m e c)) (refused-leaves (atEncoder c) m no-state (no-state-encoder c)))
+    (encoder-writes E c) (encoder-says E (encoder-laws .fits m small e .forms) c)
+    (first-some (formsEncoder m) (o .answer .number) e (encoder-says E (encoder-laws .fits m small e .forms) c .standing))))
+    (λ e. subst (Leaves (atEncoder c) m) (sym (no-encoder m e c)) (refused-leaves (atEncoder c) m no-state (no-state-encoder c) (first-none (formsEncoder m) e)))
 
 encoder-starts : (m : List ℕ) (limit : ℕ) → Leaves (encoderStart limit) m (encoder.startCall m limit)
 unfolding encoder.startCall
 encoder-starts m limit =
     let c : Call = encoderStart limit in
     need-both (Leaves c m) (leb limit 4096) (refused m [] over-limit) _
-    (λ e. refused-leaves c m over-limit tt)
+    (λ e. refused-leaves c m over-limit tt (starts-over limit encoderLength m (leb-false limit 4096 e)))
     (λ e. need-both (Leaves c m) (leb encoderLength (length m)) (refused m [] no-room) _
-    (λ d. refused-leaves c m no-room tt)
+    (λ d. refused-leaves c m no-room tt (starts-short limit encoderLength m (leb-true limit 4096 e) (leb-false encoderLength (length m) d)))
     (λ d. started-leaves c m (overlayEncoder (startEncoder limit) m) refl
     (both-say c m 0 0 nothing refl (λ z. refl) (λ z. refl) tt (omega arith) (omega arith))
-    (laid-encoder (startEncoder limit) m (leb-true encoderLength (length m) d) (kept-start-encoder limit (leb-true limit 4096 e)))))
+    (laid-encoder (startEncoder limit) m (leb-true encoderLength (length m) d) (kept-start-encoder limit (leb-true limit 4096 e)))
+    (starts-done limit encoderLength m (leb-true limit 4096 e) (leb-true encoderLength (length m) d))))
 
 -- ---- every call
 

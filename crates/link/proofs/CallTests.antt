@@ -8,7 +8,7 @@ use lib.Dec.{ltb}
 use borrow.Author.Tests.{ltb-true}
 use Rattle.memory.specs.Bytes.{Small}
 use Rattle.memory.proofs.Overlay.{small-cons}
-use Rattle.model.proofs.Marks.{and-both}
+use Rattle.model_laws.proofs.Marks.{and-both}
 use Rattle.link.specs.Calls.{DecoderCall, DecoderBytes, AllDecoderBytes}
 use Rattle.link.specs.Calls as calls
 

@@ -39,7 +39,7 @@ use Rattle.model.specs.Decoder.{giveFields, decodePart, decodeBlock, closeParts
 use Rattle.model.specs.Decoder.{FormsDecoder}
 use Rattle.model.specs.DecoderCalls.{decoderCall}
 use Rattle.model.specs.DecoderCalls as at-decoder
-use Rattle.model.proofs.Tables.{nope}
+use Rattle.model_laws.proofs.Tables.{nope}
 use Rattle.parts.specs.Turn.{partTurn}
 use Rattle.decoder.proofs.Holding.{count-few, lowest-low}
 use Rattle.link.specs.Calls.{DecoderCall, Call, atDecoder}
@@ -122,6 +122,7 @@ module _ (D : Decoder) (F : FormsDecoder D) where
             low = omega arith;
             narrow = omega arith;
           };
+          standing = λ z. omega (arith, z);
         }
     give-says p (meaning.BlockMeaning.list fs) e =
         let few = block-few s rs read in

@@ -1,6 +1,7 @@
 -- What happened at the decoder by calls, bytes and answers is what the model's calls did; so history and table agree, on memory.
 -- By the reading of an instruction, and by reading back the acknowledgement that a collect wrote.
-use mathlib.Core.Path.{_≡_, refl, sym, ap, ap₂, _∙_, subst}
+use mathlib.Core.Path.{_≡_, refl, sym, ap, ap₂, _∙_, subst, fun-ext}
+use mathlib.Core.Logic.{_↔_}
 use Prim.Native.Nat.{ℕ, _+_}
 use native.Mathlib.Omega.{arith}
 use native.Mathlib.Nat.{zero-add}
@@ -22,18 +23,18 @@ use Rattle.instructions.proofs.Back.{encoder-back}
 use Rattle.blocks.specs.Reading.{BlockRead, readBlock}
 use Rattle.blocks.specs.Reading as blocks
 use Rattle.model.specs.Table.{look, total}
-use Rattle.model.specs.Parts.{partOf, Delete}
+use Rattle.model.specs.Parts.{partOf, Marks, noMarks, Delete}
 use Rattle.model.specs.Outcome.{Outcome, outputBytes}
 use Rattle.model.specs.Decoder.{Decoder, Held, heldIndex, heldSize, slotIn, deleteOf, startDecoder, nextFreed, ready, FormsDecoder}
 use Rattle.model.specs.DecoderCalls.{decoderCall, afterDecoder}
 use Rattle.model.specs.DecoderCalls as at-decoder
 use Rattle.model.specs.Happened.{Happened, doneBy, after, heldBy, deletionBy, Contents, empty, isHeld, contentsBy, addedBy, removedBy, sumOf}
-use Rattle.model.proofs.Tables.{lowest-sound}
-use Rattle.model.proofs.DecoderWays.{collect-ways}
-use Rattle.model.proofs.DecoderHistory.{wroteThat, didBy, didSince, contentsOf, Told, told-calls}
-use Rattle.model.proofs.Collecting.{held-index}
-use Rattle.model.proofs.Holding.{told-ready, ready-told}
-use Rattle.model.proofs.Answers.{decoder-refused, collected-told}
+use Rattle.model_laws.proofs.Tables.{lowest-sound}
+use Rattle.model_laws.proofs.DecoderWays.{collect-ways}
+use Rattle.model_laws.proofs.DecoderHistory.{wroteThat, didBy, didSince, contentsOf, Told, told-calls}
+use Rattle.model_laws.proofs.Collecting.{held-index}
+use Rattle.model_laws.proofs.Holding.{told-ready, ready-told}
+use Rattle.model_laws.proofs.Answers.{decoder-refused, collected-told}
 use Rattle.state.specs.Layout.{heldOf}
 use Rattle.state.specs.DecoderState.{decoderOf}
 use Rattle.state.specs.Forms.{formsDecoder}
@@ -44,12 +45,16 @@ use Rattle.decoder.specs.Calls.{startCall}
 use Rattle.link.specs.Calls.{DecoderCall, decoderResult, AllDecoderBytes, decoderAfter, doneBytes}
 use Rattle.link.specs.Calls as calls
 use Rattle.link.specs.Happened.{managed, acknowledged, happened, history, Ready}
-use Rattle.link.specs.Histories.{contentsIn, Agrees}
+use Rattle.link.specs.Histories.{contentsIn, Lawful, BlockMeans, finishedAfter, holdAnswer, Agrees}
 use Rattle.link.proofs.Lifted.{StandsDecoder, LiftedDecoder, readBlockCall, decoderCallOf}
 use Rattle.link.proofs.DecoderLifting.{lift-decoder, start-decoder, stands-self-decoder}
 use Rattle.link.proofs.Runs.{decoderCallsOf, fine-decoders, after-decoder}
 use Rattle.link.proofs.DoneBytes.{done-bytes}
 use Rattle.link.proofs.HeldSizes.{held-decoder}
+use Rattle.link.proofs.BlockMeanings.{block-means}
+use Rattle.link.proofs.LawfulReads.{lawful-read}
+use Rattle.link.proofs.BlockTurns.{block-turn}
+use Rattle.link.proofs.FinishedParts.{finished-after, hold-answer}
 
 pub forms-decoder : (m : List ℕ) (D : Decoder) → StandsDecoder m D → FormsDecoder D
 forms-decoder m D h = subst FormsDecoder (h .state) (decoder-laws .fits m (h .small) (h .forms) .forms)
@@ -147,12 +152,37 @@ module _ (m : List ℕ) (D : Decoder) (h : StandsDecoder m D) (cs : List Decoder
   told = subst (λ (xs : List Happened). Told D xs D′) (sym (history-same m D h cs b))
       (told-calls D (forms-decoder m D h) (decoderCallsOf D cs) (fine-decoders D cs))
 
-  pub agrees : Agrees m (contentsOf D) (deleteOf D) cs
+  finished-now : finishedAfter (D .finished) m cs ≡ D′ .finished
+  finished-now = finished-after m D h cs b
+
+  hold-now : (i : ℕ) → holdAnswer (after (heldBy i) (isHeld (contentsOf D i)) (history m cs)) (after (deletionBy i) (deleteOf D i) (history m cs))
+      (finishedAfter (D .finished) m cs) i
+      ≡ holdAnswer (isHeld (contentsOf D′ i)) (deleteOf D′ i) (D′ .finished) i
+  hold-now i =
+      let o : Option Delete = after (deletionBy i) (deleteOf D i) (history m cs) in
+      let f : Marks = finishedAfter (D .finished) m cs in
+      ap (λ (t : Bool). holdAnswer t o f i) (told .held i)
+      ∙ ap (λ (x : Option Delete). holdAnswer (isHeld (contentsOf D′ i)) x f i) (told .deletion i)
+      ∙ ap (λ (g : Marks). holdAnswer (isHeld (contentsOf D′ i)) (deleteOf D′ i) g i) finished-now
+
+  pub agrees : Agrees m (contentsOf D) (deleteOf D) (D .finished) cs
   agrees = record {
     entries = λ i. ap (λ (C : Decoder). contentsOf C i) (stands .state) ∙ sym (ap (λ (t : Contents). t i) (told .entries));
     held = λ i. ap (λ (C : Decoder). isHeld (contentsOf C i)) (stands .state) ∙ sym (told .held i);
     deletion = λ i. ap (λ (C : Decoder). deleteOf C i) (stands .state) ∙ sym (told .deletion i);
     enquiry = λ i. (enquiry-ready (decoderAfter m cs) D′ stands i, ready-enquiry (decoderAfter m cs) D′ stands i);
+    parts = λ s p. ap (λ (C : Decoder). C .finished s p) (stands .state) ∙ sym (ap (λ (f : Marks). f s p) finished-now);
+    hold = λ i. answer-hold (decoderAfter m cs) D′ stands i ∙ hold-answer D′ i ∙ sym (hold-now i);
+    turn = λ stream part b out small lent.
+        subst (λ (f : Marks). (decoderResult (decoderAfter m cs) (calls.DecoderCall.block stream part b out) .answer .number ≡ 11)
+        ↔ (partTurn f stream (partOf part) ≡ false)) (sym finished-now) (block-turn (decoderAfter m cs) D′ stands stream part b out small lent);
+    lawful = λ s small z.
+        subst (λ (g : ℕ → Bool). Lawful g (λ i. after (deletionBy i) (deleteOf D i) (history m cs)) (managed s)) (sym (fun-ext (told .held)))
+        (subst (λ (d : ℕ → Option Delete). Lawful (λ i. isHeld (contentsOf D′ i)) d (managed s)) (sym (fun-ext (told .deletion)))
+        (lawful-read (decoderAfter m cs) D′ stands s small z));
+    means = λ stream part b out small lent.
+        subst (λ (t : Contents). BlockMeans t b (decoderResult (decoderAfter m cs) (calls.DecoderCall.block stream part b out))) (sym (told .entries))
+        (block-means (decoderAfter m cs) D′ stands stream part b out small lent);
   }
 
   pub sizes : heldOf (decoderAfter m cs) + sumOf removedBy (contentsOf D) (history m cs)
@@ -161,7 +191,7 @@ module _ (m : List ℕ) (D : Decoder) (h : StandsDecoder m D) (cs : List Decoder
 
 -- ---- from a start, and from other memory that forms a state
 module _ (m : List ℕ) (limit : ℕ) (small : Small m) (started : startCall m limit .answer .number ≡ 0) (cs : List DecoderCall) (b : AllDecoderBytes cs) where
-  pub agree-start : Agrees (startCall m limit .memory) empty (λ i. none) cs
+  pub agree-start : Agrees (startCall m limit .memory) empty (λ i. none) noMarks cs
   unfolding startDecoder look slotIn deleteOf
   agree-start = agrees (startCall m limit .memory) (startDecoder limit) (start-decoder m limit small started) cs b
 
@@ -171,5 +201,5 @@ module _ (m : List ℕ) (limit : ℕ) (small : Small m) (started : startCall m l
   held-start = sizes (startCall m limit .memory) (startDecoder limit) (start-decoder m limit small started) cs b ∙ zero-add (sumOf addedBy empty (history (startCall m limit .memory) cs))
 
 pub agree-state : (m : List ℕ) → Small m → formsDecoder m ≡ true → (cs : List DecoderCall) → AllDecoderBytes cs
-    → Agrees m (contentsIn m) (deleteOf (decoderOf m)) cs
+    → Agrees m (contentsIn m) (deleteOf (decoderOf m)) (decoderOf m .finished) cs
 agree-state m small forms cs b = agrees m (decoderOf m) (stands-self-decoder m small forms) cs b

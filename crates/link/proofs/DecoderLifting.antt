@@ -32,7 +32,7 @@ use Rattle.model.specs.Outcome.{outputBytes, refuse}
 use Rattle.model.specs.Decoder.{Decoder, startDecoder, readInstruction, decodeBlock}
 use Rattle.model.specs.DecoderCalls.{decoderCall}
 use Rattle.model.specs.DecoderCalls as at-decoder
-use Rattle.model.specs.Ready.{FineCall}
+use Rattle.model_laws.specs.Ready.{FineCall}
 use Rattle.state.specs.Layout.{decoderLength}
 use Rattle.state.specs.DecoderState.{decoderOf, overlayDecoder}
 use Rattle.state.specs.Forms.{formsDecoder}

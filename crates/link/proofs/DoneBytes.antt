@@ -12,7 +12,7 @@ use Rattle.memory.proofs.Order.{either, pick-true, pick-false}
 use Rattle.memory.proofs.Places.{part-overlay}
 use Rattle.integers.specs.Answers.{Answer}
 use Rattle.model.specs.Outcome.{Outcome, outputBytes}
-use Rattle.model.specs.Promises.{Unchanged, Tells}
+use Rattle.model_laws.specs.Promises.{Unchanged, Tells}
 use Rattle.reply.specs.Result.{Result}
 use Rattle.link.specs.Calls.{doneBytes}
 

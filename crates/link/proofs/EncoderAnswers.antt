@@ -34,9 +34,9 @@ use Rattle.model.specs.Encoder.{Sent, sentIndex, Encoder, sentSize, chooseName,
 use Rattle.model.specs.Encoder.{deleteSent, writePart, encodePart, encodeBlock, acknowledgeFound, readAck, FormsEncoder}
 use Rattle.model.specs.EncoderCalls.{encoderCall}
 use Rattle.model.specs.EncoderCalls as at-encoder
-use Rattle.model.proofs.Tables.{nope}
-use Rattle.model.proofs.FormsSent.{new-fine}
-use Rattle.model.proofs.Saying.{name-fine}
+use Rattle.model_laws.proofs.Tables.{nope}
+use Rattle.model_laws.proofs.FormsSent.{new-fine}
+use Rattle.model_laws.proofs.Saying.{name-fine}
 use Rattle.parts.specs.Turn.{partTurn}
 use Rattle.link.specs.Calls.{EncoderCall, Call, atEncoder}
 use Rattle.link.specs.Calls as calls

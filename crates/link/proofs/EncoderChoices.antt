@@ -27,8 +27,8 @@ use Rattle.model.specs.Parts.{Delete}
 use Rattle.model.specs.Decoder.{isSome}
 use Rattle.model.specs.Encoder.{Sent, sentIndex, serves, servesBoth, dynamicName, staticName, chooseName, dynamicField, staticField, choose}
 use Rattle.model.specs.Happened.{Happened, after, deletionBy, empty}
-use Rattle.model.proofs.Tables.{nope, lowest-sound, lowest-none, lowest-first}
-use Rattle.model.proofs.SentHappened.{heldSlot, underDeletion, ToldAfter}
+use Rattle.model_laws.proofs.Tables.{nope, lowest-sound, lowest-none, lowest-first}
+use Rattle.model_laws.proofs.SentHappened.{heldSlot, underDeletion, ToldAfter}
 use Rattle.link.specs.Histories.{Lowest, ByLowest, Static, Serving, Named, Equal, NamedBy, LiteralFor, WrittenFor, AllWrittenFor}
 
 -- ---- the static table

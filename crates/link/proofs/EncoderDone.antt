@@ -18,6 +18,7 @@ use Rattle.fields.specs.Reading as lists
 use Rattle.fields.proofs.Lists.{list-forth}
 use Rattle.fields.proofs.Walk.{list-number}
 use Rattle.instructions.specs.Instruction.{insert, delete, instructionWire}
+use Rattle.blocks.specs.Representation.{blockWire}
 use Rattle.blocks.specs.Reading.{block, readBlock}
 use Rattle.blocks.proofs.Back.{block-back}
 use Rattle.model.specs.Table.{look, vacantFrom}
@@ -25,9 +26,9 @@ use Rattle.model.specs.Outcome.{Outcome, outputBytes}
 use Rattle.model.specs.Encoder.{Encoder, Sent, sentIndex, chooseName, choose, deleteOfSent, FormsEncoder}
 use Rattle.model.specs.EncoderCalls.{encoderCall}
 use Rattle.model.specs.EncoderCalls as at-encoder
-use Rattle.model.proofs.EncoderWays.{insert-ways, delete-ways, block-ways}
-use Rattle.model.proofs.Answers.{encoder-refused, inserted-told, deleted-told, encoded-told}
-use Rattle.model.proofs.Saying.{choices-fine}
+use Rattle.model_laws.proofs.EncoderWays.{insert-ways, delete-ways, block-ways}
+use Rattle.model_laws.proofs.Answers.{encoder-refused, inserted-told, deleted-told, encoded-told}
+use Rattle.model_laws.proofs.Saying.{choices-fine}
 use Rattle.reply.specs.Result.{Result}
 use Rattle.encoder.specs.Calls as encoder
 use Rattle.link.specs.Calls.{EncoderCall, encoderResult, EncoderBytes, doneBytes}
@@ -61,14 +62,15 @@ module _ (E : Encoder) where
 
   block-done : FormsEncoder E → (stream part : ℕ) (fs : List Field) (room : ℕ) → AllFine fs
       → let o = encoderCall E (at-encoder.block stream part fs room) in o .answer .number ≡ 0
-      → readBlock (outputBytes (o .output)) ≡ block (map (choose (E .entries)) fs)
+      → (readBlock (outputBytes (o .output)) ≡ block (map (choose (E .entries)) fs)) × (outputBytes (o .output) ≡ blockWire (map (choose (E .entries)) fs))
   unfolding encoderCall outputBytes
   block-done F stream part fs room fine =
       block-ways
-      (λ (o : Outcome Encoder). o .answer .number ≡ 0 → readBlock (outputBytes (o .output)) ≡ block (map (choose (E .entries)) fs))
+      (λ (o : Outcome Encoder). o .answer .number ≡ 0
+      → (readBlock (outputBytes (o .output)) ≡ block (map (choose (E .entries)) fs)) × (outputBytes (o .output) ≡ blockWire (map (choose (E .entries)) fs)))
       E (λ a z e. absurd (eqb-false (a .number) 0 z e)) stream part fs room
       (λ p rs chosen q below turn short fits e.
-      block-back rs (rw chosen (choices-fine (E .entries) (F .order) (F .entries) fs fine)) short ∙ ap block chosen)
+      (block-back rs (rw chosen (choices-fine (E .entries) (F .order) (F .entries) fs fine)) short ∙ ap block chosen, ap blockWire chosen))
 
 unread-number : (E : Encoder) (number : ℕ) → encoderCall E (at-encoder.unread number) .answer .number ≡ 0 → number ≡ 0
 unfolding encoderCall
@@ -115,6 +117,7 @@ module _ (m : List ℕ) (E : Encoder) (S : StandsEncoder m E) where
   module _ (stream part : ℕ) (s out : List ℕ) (small : Small s) (r : Result) where
     abbrev Written : Type 0
     Written = (fs : List Field) × (readList s ≡ lists.ListRead.list fs) × AllFine fs × (readBlock (doneBytes r) ≡ block (map (choose (E .entries)) fs))
+        × (doneBytes r ≡ blockWire (map (choose (E .entries)) fs))
 
     pub block-told : (turn : Bool) (q : ListRead) → readList s ≡ q
         → let o = encoderCall E (pick turn (readListCall stream part (length out) q) (at-encoder.unread out-of-turn)) in
@@ -124,7 +127,7 @@ module _ (m : List ℕ) (E : Encoder) (S : StandsEncoder m E) where
         let fine = list-forth s small fs read .1 in
         let d = block-done E (stands-forms m E S) stream part fs (length out) fine (ap (λ (x : Answer). x .number) (sym a) ∙ z) in
         let b = done-bytes E (encoderCall E c) out r a o (encoder-refused E c) (encoded-told E stream part fs (length out)) in
-        (fs, read, fine, ap readBlock b ∙ d)
+        (fs, read, fine, ap readBlock b ∙ d .0, b ∙ d .1)
     block-told true (lists.ListRead.refused number) read a o z =
         let n : number ≡ 0 = unread-number E number (sym (ap (λ (x : Answer). x .number) a) ∙ z) in
         absurd (⊎-elim (λ d. omega (arith, n)) (λ d. omega (arith, n)) (list-number s (length s) 0 [] number read))

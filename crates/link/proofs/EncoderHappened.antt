@@ -26,10 +26,10 @@ use Rattle.model.specs.Encoder.{Encoder, deleteSent, FormsEncoder}
 use Rattle.model.specs.EncoderCalls.{encoderCall}
 use Rattle.model.specs.EncoderCalls as at-encoder
 use Rattle.model.specs.Happened.{Happened, inserted, freed, doneBy}
-use Rattle.model.proofs.EncoderWays.{delete-ways}
-use Rattle.model.proofs.Answers.{encoder-refused, deleted-told}
-use Rattle.model.proofs.Saying.{said-fine}
-use Rattle.model.proofs.SentHappened.{wroteDelete, sentHappened}
+use Rattle.model_laws.proofs.EncoderWays.{delete-ways}
+use Rattle.model_laws.proofs.Answers.{encoder-refused, deleted-told}
+use Rattle.model_laws.proofs.Saying.{said-fine}
+use Rattle.model_laws.proofs.SentHappened.{wroteDelete, sentHappened}
 use Rattle.parts.specs.Turn.{partTurn}
 use Rattle.reply.specs.Result.{Result}
 use Rattle.link.specs.Calls.{EncoderCall}

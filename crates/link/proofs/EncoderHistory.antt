@@ -15,10 +15,10 @@ use Rattle.model.specs.Decoder.{isSome}
 use Rattle.model.specs.Encoder.{Encoder, Sent, sentIndex, sentSize, startEncoder, chooseName, choose, emptyList}
 use Rattle.model.specs.EncoderCalls.{afterEncoder}
 use Rattle.model.specs.Happened.{Happened, after, heldBy, empty, addedBy, removedBy, sumOf}
-use Rattle.model.specs.History as model
-use Rattle.model.proofs.Tables.{nope, look-index, vacant-low, vacant-free, vacant-first}
-use Rattle.model.proofs.Histories.{histories}
-use Rattle.model.proofs.SentHappened.{ToldAfter, told-start}
+use Rattle.model_laws.specs.History as model
+use Rattle.model_laws.proofs.Tables.{nope, look-index, vacant-low, vacant-free, vacant-first}
+use Rattle.model_laws.proofs.Histories.{histories}
+use Rattle.model_laws.proofs.SentHappened.{ToldAfter, told-start}
 use Rattle.state.specs.Layout.{heldOf}
 use Rattle.parts.specs.Turn.{partTurn}
 use Rattle.encoder.specs.Calls as encoder
@@ -105,7 +105,7 @@ module _ (m : List ℕ) (limit : ℕ) (S : StandsEncoder m (startEncoder limit))
             let L = lift-encoder k now stands-now (calls.EncoderCall.block stream part s out) (small, o) in
             let w = block-told k now stands-now stream part s out small (encoderResult k (calls.EncoderCall.block stream part s out))
             (partTurn (now .written) stream (partOf part)) (readList s) refl (L .answer) (L .output) z in
-            (w .0, map (choose (now .entries)) (w .0), w .1, w .3, all-written hs (now .entries) order told-now (w .0) (w .2));
+            (w .0, map (choose (now .entries)) (w .0), w .1, w .3, w .4, all-written hs (now .entries) order told-now (w .0) (w .2));
         delete-says = delete-now;
       }
 

@@ -25,7 +25,7 @@ use Rattle.model.specs.Encoder.{Encoder, startEncoder, encodeBlock}
 use Rattle.model.specs.EncoderCalls.{encoderCall}
 use Rattle.model.specs.EncoderCalls as at-encoder
 use Rattle.model.specs.Events.{encoder}
-use Rattle.model.specs.Link.{FineLinkCall}
+use Rattle.model_laws.specs.Link.{FineLinkCall}
 use Rattle.state.specs.Layout.{encoderLength}
 use Rattle.state.specs.EncoderState.{encoderOf, overlayEncoder}
 use Rattle.state.specs.Forms.{formsEncoder}

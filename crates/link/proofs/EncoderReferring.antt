@@ -26,12 +26,12 @@ use Rattle.model.specs.Parts.{Part, partOf, partNumber}
 use Rattle.model.specs.Outcome.{Outcome, outputBytes}
 use Rattle.model.specs.Encoder.{Encoder, mentions, FormsEncoder}
 use Rattle.model.specs.EncoderCalls as at-encoder
-use Rattle.model.specs.History.{raisedBy, begunBy}
-use Rattle.model.specs.History as model
-use Rattle.model.specs.Promises.{Tells}
-use Rattle.model.proofs.EncoderWays.{block-ways}
-use Rattle.model.proofs.Saying.{choices-fine}
-use Rattle.model.proofs.Answers.{encoder-refused, encoded-told}
+use Rattle.model_laws.specs.History.{raisedBy, begunBy}
+use Rattle.model_laws.specs.History as model
+use Rattle.model_laws.specs.Promises.{Tells}
+use Rattle.model_laws.proofs.EncoderWays.{block-ways}
+use Rattle.model_laws.proofs.Saying.{choices-fine}
+use Rattle.model_laws.proofs.Answers.{encoder-refused, encoded-told}
 use Rattle.parts.specs.Turn.{partTurn}
 use Rattle.reply.specs.Result.{Result}
 use Rattle.link.specs.Calls.{EncoderCall, encoderResult, EncoderBytes, AllEncoderBytes, doneBytes}

@@ -33,9 +33,9 @@ use Rattle.model.specs.EncoderCalls.{encoderCall}
 use Rattle.model.specs.EncoderCalls as at-encoder
 use Rattle.model.specs.Events.{saidBy, wroteBy, encoderEvent}
 use Rattle.model.specs.Events as model
-use Rattle.model.proofs.Tables.{nope}
-use Rattle.model.proofs.EncoderWays.{insert-ways, delete-ways, block-ways, acknowledged-ways}
-use Rattle.model.proofs.Saying.{said-fine, block-fine}
+use Rattle.model_laws.proofs.Tables.{nope}
+use Rattle.model_laws.proofs.EncoderWays.{insert-ways, delete-ways, block-ways, acknowledged-ways}
+use Rattle.model_laws.proofs.Saying.{said-fine, block-fine}
 use Rattle.parts.specs.Turn.{partTurn}
 use Rattle.reply.specs.Result.{Result}
 use Rattle.link.specs.Calls.{EncoderCall, encoderLent, EncoderBytes}

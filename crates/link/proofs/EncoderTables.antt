@@ -9,10 +9,10 @@ use Rattle.model.specs.Parts.{Delete}
 use Rattle.model.specs.Encoder.{Encoder, FormsEncoder}
 use Rattle.model.specs.EncoderCalls.{encoderCall, afterEncoder}
 use Rattle.model.specs.Happened.{after, Contents, addedBy, removedBy, sumOf}
-use Rattle.model.specs.History.{sentSince, ackedSince, sent, acked}
-use Rattle.model.proofs.SentHappened.{sentHappened, Told, ToldAfter, told-append, told-call}
-use Rattle.model.proofs.HappenedLists.{sum-append}
-use Rattle.model.proofs.SentSums.{call-added, call-removed}
+use Rattle.model_laws.specs.History.{sentSince, ackedSince, sent, acked}
+use Rattle.model_laws.proofs.SentHappened.{sentHappened, Told, ToldAfter, told-append, told-call}
+use Rattle.model_laws.proofs.HappenedLists.{sum-append}
+use Rattle.model_laws.proofs.SentSums.{call-added, call-removed}
 use Rattle.state_laws.proofs.EncoderLaws.{encoder-laws}
 use Rattle.link.specs.Calls.{EncoderCall, encoderResult, EncoderBytes, AllEncoderBytes}
 use Rattle.link.specs.Happened.{happenedThere, historyThere}

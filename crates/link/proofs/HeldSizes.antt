@@ -7,8 +7,8 @@ use Rattle.model.specs.Table.{look}
 use Rattle.model.specs.Parts.{Part, nontrailer, trailer}
 use Rattle.model.specs.Decoder.{Decoder, heldSize}
 use Rattle.model.specs.Encoder.{Encoder, Sent, sentIndex, sentSize}
-use Rattle.model.specs.History.{horizonOf}
-use Rattle.model.proofs.Tables.{nope, pick-eq}
+use Rattle.model_laws.specs.History.{horizonOf}
+use Rattle.model_laws.proofs.Tables.{nope, pick-eq}
 use Rattle.state.specs.Layout.{heldOf, countOf}
 use Rattle.state.specs.Rows.{Row, rowsOf}
 use Rattle.state.specs.DecoderState.{decoderOf, rowOfHeld, decoderFront}

@@ -21,6 +21,10 @@ pub mod Answers
 pub mod CallTests
 pub mod TenChecks
 -- histories: what happened at each end, and what follows from it
+pub mod BlockMeanings
+pub mod LawfulReads
+pub mod FinishedParts
+pub mod BlockTurns
 pub mod DecoderHistory
 pub mod EncoderHappened
 pub mod EncoderTables
@@ -28,6 +32,7 @@ pub mod EncoderChoices
 pub mod EncoderReferring
 pub mod EncoderDone
 pub mod EncoderHistory
+pub mod Within
 pub mod HistoriesClaim
 -- demand 3, before "Hence"
 pub mod StillAccepted

@@ -16,8 +16,8 @@ use Rattle.blocks.specs.Reading.{block, readBlock}
 use Rattle.model.specs.Parts.{ended}
 use Rattle.model.specs.Outcome.{Output}
 use Rattle.model.specs.Events as events
-use Rattle.model.specs.Link.{at}
-use Rattle.model.specs.Link as model
+use Rattle.model.specs.Events.{at}
+use Rattle.model_laws.specs.Link as model
 use Rattle.reply.specs.Result.{Result}
 use Rattle.link.specs.Calls as calls
 use Rattle.link.specs.Claims.{Event, Written, writtenIn, Accepted, Rules, Managed, Acknowledges}

@@ -17,9 +17,9 @@ use Rattle.blocks.specs.Meaning.{Refers}
 use Rattle.model.specs.Outcome.{Output, outputBytes}
 use Rattle.model.specs.Outcome as outcome
 use Rattle.model.specs.Events as events
-use Rattle.model.specs.Link.{at}
-use Rattle.model.specs.Link as model
-use Rattle.model.proofs.Tables.{nope}
+use Rattle.model.specs.Events.{at}
+use Rattle.model_laws.specs.Link as model
+use Rattle.model_laws.proofs.Tables.{nope}
 use Rattle.reply.specs.Result.{Result}
 use Rattle.link.specs.Calls as calls
 use Rattle.link.specs.Claims.{Event, Written, writtenIn, heldAfter, Rules, Names, Managed, Acknowledges, Cut, ServedBlock, Served}

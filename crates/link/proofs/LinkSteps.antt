@@ -29,11 +29,11 @@ use Rattle.model.specs.DecoderCalls as at-decoder
 use Rattle.model.specs.Encoder.{Encoder, FormsEncoder}
 use Rattle.model.specs.Events.{freedBy, toldBy}
 use Rattle.model.specs.Events as model
-use Rattle.model.specs.Link.{FineLinkCall, FineLinkCalls}
-use Rattle.model.specs.Promises.{Tells}
-use Rattle.model.proofs.Answers.{decoded-told}
-use Rattle.model.proofs.DecoderWays as ways
-use Rattle.model.proofs.Saying.{ack-fine}
+use Rattle.model_laws.specs.Link.{FineLinkCall, FineLinkCalls}
+use Rattle.model_laws.specs.Promises.{Tells}
+use Rattle.model_laws.proofs.Answers.{decoded-told}
+use Rattle.model_laws.proofs.DecoderWays as ways
+use Rattle.model_laws.proofs.Saying.{ack-fine}
 use Rattle.parts.specs.Turn.{partTurn}
 use Rattle.reply.specs.Result.{Result}
 use Rattle.link.specs.Calls.{DecoderCall, DecoderBytes, decoderResult, encoderResult, doneBytes}

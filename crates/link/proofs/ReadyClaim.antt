@@ -13,16 +13,16 @@ use Rattle.integers.specs.Answers.{done, no-room}
 use Rattle.blocks.specs.Representation.{Representation, indexed, blockWire}
 use Rattle.blocks.specs.Reading.{block, readBlock}
 use Rattle.blocks.specs.Meaning.{Refers, blockReferences}
-use Rattle.model.specs.Parts.{Part, Delete, namesPart, isReady, streams}
+use Rattle.model.specs.Parts.{Part, nontrailer, trailer, Delete, namesPart, isReady, streams}
 use Rattle.model.specs.Outcome.{Outcome, outputBytes}
 use Rattle.model.specs.Decoder.{Decoder, deleteOf, readyDelete, ready, FormsDecoder}
 use Rattle.model.specs.DecoderCalls.{decoderCall, collect}
-use Rattle.model.specs.Ready.{LowestReady}
-use Rattle.model.specs.Ready as model
-use Rattle.model.proofs.Tables.{nope}
-use Rattle.model.proofs.Marks.{OpenPart, ready-or}
-use Rattle.model.proofs.Collecting.{delete-held, held-index, held-slot}
-use Rattle.model.proofs.Ready.{ready-half}
+use Rattle.model_laws.specs.Ready.{LowestReady}
+use Rattle.model_laws.specs.Ready as model
+use Rattle.model_laws.proofs.Tables.{nope}
+use Rattle.model_laws.proofs.Marks.{OpenPart, ready-or}
+use Rattle.model_laws.proofs.Collecting.{delete-held, held-index, held-slot}
+use Rattle.model_laws.proofs.Ready.{ready-half}
 use Rattle.state.specs.DecoderState.{decoderOf, overlayDecoder}
 use Rattle.state.specs.Forms.{formsDecoder}
 use Rattle.state_laws.proofs.DecoderLaws.{decoder-laws}
@@ -31,7 +31,7 @@ use Rattle.decoder.specs.Calls.{collectCall}
 use Rattle.link.specs.Calls.{decoderResult}
 use Rattle.link.specs.Calls as calls
 use Rattle.link.specs.Happened.{Ready}
-use Rattle.link.specs.Claims.{CouldStill, Frees, ReadyHalf, ReadyClaim}
+use Rattle.link.specs.Claims.{CouldStill, Frees, Named, ReadyHalf, ReadyClaim}
 use Rattle.link.proofs.Lifted.{StandsDecoder, decoderCallOf}
 use Rattle.link.proofs.DecoderLifting.{same-decoder, stands-self-decoder, start-decoder}
 use Rattle.link.proofs.Runs.{after-decoder}
@@ -41,6 +41,17 @@ use Rattle.link.proofs.StillAccepted.{still-model, one-small, one-read,
 refers-itself : (i : ℕ) → Refers (indexed i ∷ []) i
 unfolding blockReferences
 refers-itself i = List·Memᴰ·head refl
+
+-- a part named by its own list
+named-part : (d : Delete) (s : ℕ) (p : Part) → Named d s p → namesPart d s p ≡ true
+unfolding namesPart
+named-part d s nontrailer n = n
+named-part d s trailer n = n
+
+part-named : (d : Delete) (s : ℕ) (p : Part) → namesPart d s p ≡ true → Named d s p
+unfolding namesPart
+part-named d s nontrailer n = n
+part-named d s trailer n = n
 
 module _ (m : List ℕ) (small : Small m) (forms : formsDecoder m ≡ true) where
   abbrev D : Decoder
@@ -59,12 +70,12 @@ module _ (m : List ℕ) (small : Small m) (forms : formsDecoder m ≡ true) wher
   module _ (i : ℕ) (d : Delete) (e : deleteOf D i ≡ some d) where
     -- no block of bytes that could still be accepted in a named part refers to the entry
     abbrev Unreachable : Type 0
-    Unreachable = (s : ℕ) (p : Part) (b : List ℕ) (rs : List Representation) → Small b → readBlock b ≡ block rs → namesPart d s p ≡ true → Refers rs i
+    Unreachable = (s : ℕ) (p : Part) (b : List ℕ) (rs : List Representation) → Small b → readBlock b ≡ block rs → Named d s p → Refers rs i
         → CouldStill m s p b → ⊥
 
     ready-unreachable : ready D i ≡ true → Unreachable
     ready-unreachable now s p b rs small-b read names refers still =
-        half .exactly i d e .0 now s p rs names refers (still-model m D stands s p b rs read still)
+        half .exactly i d e .0 now s p rs (named-part d s p names) refers (still-model m D stands s p b rs read still)
 
     ready-is : ready D i ≡ isReady (D .finished) d
     unfolding ready readyDelete
@@ -74,7 +85,7 @@ module _ (m : List ℕ) (small : Small m) (forms : formsDecoder m ≡ true) wher
     open-reachable o out =
         let h = delete-held D F i d e in
         let f = held-index D F i (h .0) (h .1) in
-        out (o .stream) (o .part) (blockWire (indexed i ∷ [])) (indexed i ∷ []) (one-small i f) (one-read i f) (o .named) (refers-itself i)
+        out (o .stream) (o .part) (blockWire (indexed i ∷ [])) (indexed i ∷ []) (one-small i f) (one-read i f) (part-named d (o .stream) (o .part) (o .named)) (refers-itself i)
         (open-takes m D stands i f (h .0 .entry) (held-slot D F i (h .0) (h .1)) (o .stream) (o .part) (o .low) (o .unmarked))
 
     unreachable-ready : Unreachable → ready D i ≡ true

@@ -4,7 +4,7 @@ use mathlib.Core.List.{List, [], _∷_}
 use Rattle.model.specs.Decoder.{Decoder}
 use Rattle.model.specs.DecoderCalls.{decoderCall, afterDecoder}
 use Rattle.model.specs.DecoderCalls as at-decoder
-use Rattle.model.specs.Ready.{FineCalls}
+use Rattle.model_laws.specs.Ready.{FineCalls}
 use Rattle.model.specs.Encoder.{Encoder}
 use Rattle.model.specs.EncoderCalls.{encoderCall, afterEncoder}
 use Rattle.model.specs.EncoderCalls as at-encoder

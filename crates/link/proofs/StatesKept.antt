@@ -20,17 +20,17 @@ use Rattle.model.specs.Outcome.{Outcome}
 use Rattle.model.specs.Decoder.{Held, heldIndex, Decoder, slotIn, lookup, slotName, nameBytes, startDecoder, without}
 use Rattle.model.specs.DecoderCalls.{decoderCall}
 use Rattle.model.specs.DecoderCalls as at-decoder
-use Rattle.model.specs.Ready.{FineCall}
+use Rattle.model_laws.specs.Ready.{FineCall}
 use Rattle.model.specs.Encoder.{sentIndex, Encoder, deleteAt, refer, startEncoder, newSent}
 use Rattle.model.specs.EncoderCalls.{encoderCall}
 use Rattle.model.specs.EncoderCalls as at-encoder
-use Rattle.model.proofs.Tables.{nope, pick-eq}
-use Rattle.model.proofs.DecoderWays.{newHeld}
-use Rattle.model.proofs.DecoderWays as decoder
-use Rattle.model.proofs.EncoderWays as encoder
-use Rattle.model.proofs.Forms.{forms-start, forms-call}
-use Rattle.model.proofs.FormsSent.{sent-start, sent-call}
-use Rattle.model.proofs.SentChanges.{delete-entry, refer-entry}
+use Rattle.model_laws.proofs.Tables.{nope, pick-eq}
+use Rattle.model_laws.proofs.DecoderWays.{newHeld}
+use Rattle.model_laws.proofs.DecoderWays as decoder
+use Rattle.model_laws.proofs.EncoderWays as encoder
+use Rattle.model_laws.proofs.Forms.{forms-start, forms-call}
+use Rattle.model_laws.proofs.FormsSent.{sent-start, sent-call}
+use Rattle.model_laws.proofs.SentChanges.{delete-entry, refer-entry}
 use Rattle.state_laws.specs.Laws.{MarksBelow, FitsDecoder, FitsEncoder}
 use Rattle.state_laws.proofs.Each.{Each, each-found, each-put, each-cut, each-map}
 use Rattle.link.proofs.SmallStates.{SmallHeld, SmallSent}

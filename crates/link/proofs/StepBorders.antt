@@ -16,10 +16,10 @@ use Rattle.memory.proofs.Order.{either, pick-true, pick-false}
 use Rattle.instructions.specs.Instruction.{Instruction, acknowledge, instructionWire}
 use Rattle.instructions.specs.Reading.{readForDecoder, readForEncoder, instructionOf}
 use Rattle.instructions.specs.declared.read.InstructionRead.{InstructionRead}
-use Rattle.model.specs.Link.{at}
-use Rattle.model.specs.Link as model
-use Rattle.model.proofs.Tables.{nope}
-use Rattle.model.proofs.Linking.{said-append, freed-append, heard-append, acknowledged-append}
+use Rattle.model.specs.Events.{at}
+use Rattle.model_laws.specs.Link as model
+use Rattle.model_laws.proofs.Tables.{nope}
+use Rattle.model_laws.proofs.Linking.{said-append, freed-append, heard-append, acknowledged-append}
 use Rattle.reply.specs.Result.{Result}
 use Rattle.link.specs.Calls as calls
 use Rattle.link.specs.Claims.{Event, managementIn, readOf, readIn, acknowledgementsIn, acknowledgedOf, acknowledgedIn, MayRead, Managed, Acknowledges}

@@ -24,11 +24,11 @@ use Rattle.instructions.proofs.Back.{encoder-back}
 use Rattle.instructions.proofs.Bounds.{decoder-good}
 use Rattle.blocks.specs.Reading.{block, readBlock}
 use Rattle.model.specs.Happened.{Happened, inserted, doneBy, after, heldBy}
-use Rattle.model.specs.Link.{at}
-use Rattle.model.specs.Link as model
-use Rattle.model.proofs.Tables.{nope}
-use Rattle.model.proofs.Linking.{at-end}
-use Rattle.model.proofs.HappenedLists.{after-append}
+use Rattle.model.specs.Events.{at}
+use Rattle.model_laws.specs.Link as model
+use Rattle.model_laws.proofs.Tables.{nope}
+use Rattle.model_laws.proofs.Linking.{at-end}
+use Rattle.model_laws.proofs.HappenedLists.{after-append}
 use Rattle.state_laws.proofs.Each.{Each}
 use Rattle.reply.specs.Result.{Result}
 use Rattle.link.specs.Calls.{EncoderCall, doneBytes}

@@ -26,9 +26,9 @@ use Rattle.model.specs.Outcome.{fields, Outcome, finish}
 use Rattle.model.specs.Decoder.{Decoder, lookup, withFinished}
 use Rattle.model.specs.DecoderCalls.{decoderCall, afterDecoder}
 use Rattle.model.specs.DecoderCalls as at-decoder
-use Rattle.model.specs.Ready as model
-use Rattle.model.proofs.Marks.{part-back, mark-same, nontrailer-turn, trailer-turn}
-use Rattle.model.proofs.CouldStill.{takes}
+use Rattle.model_laws.specs.Ready as model
+use Rattle.model_laws.proofs.Marks.{part-back, mark-same, nontrailer-turn, trailer-turn}
+use Rattle.model_laws.proofs.CouldStill.{takes}
 use Rattle.parts.specs.Turn.{partTurn}
 use Rattle.reply.specs.Result.{Result, stepped}
 use Rattle.link.specs.Calls.{DecoderCall, decoderResult, DecoderBytes, decoderAfter}

@@ -33,7 +33,7 @@ use Rattle.reply.specs.Result.{Result, refused, stepped}
 use Rattle.decoder.specs.Calls.{startCall}
 use Rattle.link.specs.Calls.{DecoderCall, read, hold, decoderResult, decoderLent, AllDecoderBytes}
 use Rattle.link.specs.Checks.{since, told, tells, numbers, numbersSince, block, pastBelow, namedFrom}
-use Rattle.link.specs.Checks.{h9, h9-63, h9-64, after4, past4, delete62, Agree, checks, ChecksClaim}
+use Rattle.link.specs.Checks.{h9, h9-63, h9-64, after4, past4, delete62, named8, Agree, checks, ChecksClaim}
 use Rattle.link.proofs.Lifted.{decoderCallOf, StandsDecoder}
 use Rattle.link.proofs.DecoderLifting.{lift-decoder, start-decoder}
 use Rattle.link.proofs.Runs.{decoderCallsOf, after-decoder}
@@ -125,11 +125,14 @@ module _ (m : List ℕ) (small : Small m) (ok : startCall m 4096 .answer .number
       let five = tells-is after4 (block (0xBE ∷ 0x82 ∷ []) 18) refl refl in
       let six = tells-is [] (block (0xBE ∷ 0x82 ∷ []) 18) refl refl in
       let seven = tells-is after4 (block (0x7E ∷ 0x01 ∷ 0x37 ∷ []) 5) refl refl in
+      let eight =
+      ap₂ _++_ (ap₂ _++_ (ap (λ (l : List ℕ). 0 ∷ 1 ∷ 2 ∷ 4 ∷ 7 ∷ l) (tells-is (named8 0) (hold 62) refl refl)) (tells-is (named8 3) (hold 62) refl refl))
+      (tells-is (named8 5) (hold 62) refl refl) in
       let nine = ap₂ _++_ (lower-is 68 refl (read h9 ∷ read h9-63 ∷ read h9-64 ∷ []) refl) (lower-is 67 refl (read h9 ∷ read h9-63 ∷ []) refl) in
       let ten =
       ap₂ _++_ (ap₂ _++_ (tells-is past4 (hold 62) refl refl) (tells-is past4 (read delete62) refl refl))
       (tells-is (past4 ++ (read delete62 ∷ [])) (hold 62) refl refl) in
-      (refl, (two, (refl, (four, (five, (six, (seven, (refl, (nine, (ten, tt))))))))))
+      (refl, (two, (refl, (four, (five, (six, (seven, (eight, (nine, (ten, tt))))))))))
 
 pub ten-checks : ChecksClaim
 ten-checks = agreed

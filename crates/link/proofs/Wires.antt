@@ -18,9 +18,9 @@ use Rattle.instructions.proofs.Equations.{decoder-empty, encoder-empty}
 use Rattle.instructions.proofs.Back.{decoder-front, encoder-front}
 use Rattle.instructions.proofs.Cut.{decoder-cut, encoder-cut}
 use Rattle.instructions.proofs.Lengths.{instruction-some}
-use Rattle.model.specs.Link.{at}
-use Rattle.model.proofs.Tables.{nope}
-use Rattle.model.proofs.Linking.{at-below}
+use Rattle.model.specs.Events.{at}
+use Rattle.model_laws.proofs.Tables.{nope}
+use Rattle.model_laws.proofs.Linking.{at-below}
 use Rattle.state_laws.proofs.Each.{Each}
 use Rattle.link.specs.Claims.{Managed, Acknowledges, Cut}
 

@@ -21,8 +21,8 @@ use Rattle.model.specs.DecoderCalls as at-decoder
 use Rattle.model.specs.Encoder.{Encoder}
 use Rattle.model.specs.EncoderCalls.{encoderCall}
 use Rattle.model.specs.EncoderCalls as at-encoder
-use Rattle.model.specs.Promises.{Tells}
-use Rattle.model.proofs.Promises.{promises}
+use Rattle.model_laws.specs.Promises.{Tells}
+use Rattle.model_laws.proofs.Promises.{promises}
 use Rattle.parts.specs.Turn.{partTurn}
 use Rattle.link.specs.Calls.{DecoderCall, decoderLent, EncoderCall, encoderLent}
 use Rattle.link.specs.Calls as calls

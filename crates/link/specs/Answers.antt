@@ -1,12 +1,15 @@
 -- Demand 1: "Any bytes, stream numbers and calls in any order get an answer from the numbered table. Every answer but "done" changes nothing, in
 -- the state or in a lent buffer."
 use mathlib.Core.Path.{_≡_}
-use Prim.Native.Nat.{ℕ, _≤_}
+use mathlib.Core.Logic.{_↔_}
+use Prim.Native.Nat.{ℕ, _≤_, _<_}
 use mathlib.Core.Bool.{true, false}
 use mathlib.Core.List.{List, [], _∷_}
 use lib.ListN.{length, drop}
 use Rattle.memory.specs.Bytes.{Small}
 use Rattle.integers.specs.Answers.{among}
+use Rattle.state.specs.Layout.{decoderLength, encoderLength}
+use Rattle.state.specs.Forms.{formsDecoder, formsEncoder}
 use Rattle.reply.specs.Reply.{Unpacked}
 use Rattle.link.specs.Calls.{DecoderCall, EncoderCall, Call, decoderStart, atDecoder, encoderStart, atEncoder, resultOf, lent, CallBytes, formsAt, lengthAt}
 use Rattle.link.specs.Calls as calls
@@ -85,10 +88,23 @@ Counts (atDecoder c) n = DecoderCounts c n
 Counts (encoderStart limit) n = Unit {0}
 Counts (atEncoder c) n = EncoderCounts c n
 
+-- ---- "Elsewhere 17 comes first", and a start has "7, then 12"
+abbrev pub Starts : ℕ → ℕ → List ℕ → ℕ → Type 0
+Starts limit bytes m number =
+    ((number ≡ 7) ↔ (4096 < limit)) × ((number ≡ 12) ↔ ((limit ≤ 4096) × (length m < bytes))) × ((number ≡ 0) ↔ ((limit ≤ 4096) × (bytes ≤ length m)))
+
+abbrev pub First : Call → List ℕ → ℕ → Type 0
+First (decoderStart limit) m number = Starts limit decoderLength m number
+First (atDecoder c) m number = (number ≡ 17) ↔ (formsDecoder m ≡ false)
+First (encoderStart limit) m number = Starts limit encoderLength m number
+First (atEncoder c) m number = (number ≡ 17) ↔ (formsEncoder m ≡ false)
+
 -- ---- the claim
 pub record Answered (m : List ℕ) (c : Call) : Type 0 where
   -- the answer is one of the call's numbers
   pub numbered : among (answersOf c) (resultOf m c .answer .number) ≡ true
+  -- what comes first: whether memory forms a state, or a start's limit and memory
+  pub judged-first : First c m (resultOf m c .answer .number)
   -- "A told number not named here for the answer is 0."
   pub first : among (firstTold c) (resultOf m c .answer .number) ≡ false → resultOf m c .answer .first ≡ 0
   pub second : among (secondTold c) (resultOf m c .answer .number) ≡ false → resultOf m c .answer .second ≡ 0

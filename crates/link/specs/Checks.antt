@@ -95,6 +95,13 @@ past4 = read h9 ∷ pastBelow 5
 abbrev pub delete62 : List ℕ
 delete62 = 0x3E ∷ 0x05 ∷ 0x00 ∷ 0x00 ∷ 0x00 ∷ []
 
+-- number 8's delete of 62 with its list, and the calls that read it, with the streams below n past their non-trailer part
+abbrev pub delete-list : List ℕ
+delete-list = 0x3E ∷ 0x03 ∷ 0x02 ∷ 0x01 ∷ 0x03 ∷ 0x00 ∷ 0x00 ∷ []
+
+abbrev pub named8 : ℕ → List DecoderCall
+named8 n = read h9 ∷ read delete-list ∷ pastBelow n
+
 unfoldable pub checks : List ℕ → List Check
 checks m =
     -- 1. "10 and 1337 with a 5-bit prefix are 0A and 1F 9A 0A; 42 with 8 bits is 2A"
@@ -120,8 +127,11 @@ checks m =
     check 6 (tells m [] (block (0xBE ∷ 0x82 ∷ []) 18)) (1 ∷ 62 ∷ 0 ∷ []) ∷
     -- 7. "After 4, 7E 01 37 gives 01 01 68 01 37."
     check 7 (tells m after4 (block (0x7E ∷ 0x01 ∷ 0x37 ∷ []) 5)) (0 ∷ 5 ∷ 0 ∷ 0x01 ∷ 0x01 ∷ 0x68 ∷ 0x01 ∷ 0x37 ∷ []) ∷
-    -- 8. "List 03 02 01 03 names 0, 1, 2, 4 and 7, not 3." All the streams that it names, from the bytes of a delete with this list.
-    check 8 (namedFrom (plainRead (0x3E ∷ 0x03 ∷ 0x02 ∷ 0x01 ∷ 0x03 ∷ 0x00 ∷ 0x00 ∷ [])) 0 streams) (0 ∷ 1 ∷ 2 ∷ 4 ∷ 7 ∷ []) ∷
+    -- 8. "List 03 02 01 03 names 0, 1, 2, 4 and 7, not 3." All the streams that it names, from the bytes of a delete with this list; and what the hold
+    -- enquiry tells of it: five parts hold the entry, with streams 0 to 2 past two from 4 on, with 3 and 4 past too one, 7
+    check 8
+    (namedFrom (plainRead delete-list) 0 streams ++ tells m (named8 0) (hold 62) ++ tells m (named8 3) (hold 62) ++ tells m (named8 5) (hold 62))
+    (0 ∷ 1 ∷ 2 ∷ 4 ∷ 7 ∷ 0 ∷ 5 ∷ 0 ∷ 0 ∷ 2 ∷ 4 ∷ 0 ∷ 1 ∷ 7 ∷ []) ∷
     -- 9. "Limit 68 takes two entries like 4, a third gives 7; limit 67 refuses the second." The first number of each is the start's.
     check 9 (numbersSince m 68 (read h9 ∷ read h9-63 ∷ read h9-64 ∷ []) ++ numbersSince m 67 (read h9 ∷ read h9-63 ∷ []))
     (0 ∷ 0 ∷ 0 ∷ 7 ∷ 0 ∷ 0 ∷ 7 ∷ []) ∷

@@ -11,14 +11,15 @@ use lib.Dec.{eqb}
 use Rattle.memory.specs.Choice.{pick}
 use Rattle.memory.specs.Bytes.{Small, overlay}
 use Rattle.integers.specs.Answers.{done, no-room}
+use Rattle.wire.specs.StreamList.{names}
 use Rattle.instructions.specs.Instruction.{Instruction, acknowledge, FineIndex, Fine, Manages, instructionWire}
 use Rattle.blocks.specs.Representation.{Representation}
 use Rattle.blocks.specs.Reading.{block, readBlock}
 use Rattle.blocks.specs.Meaning.{Refers}
-use Rattle.model.specs.Parts.{Part, partNumber, ended, Delete, namesPart}
+use Rattle.model.specs.Parts.{Part, nontrailer, trailer, partNumber, ended, Delete}
 use Rattle.model.specs.Decoder.{deleteOf, without}
 use Rattle.model.specs.Happened.{Happened, after, heldBy, deletionBy}
-use Rattle.model.specs.Link.{at}
+use Rattle.model.specs.Events.{at}
 use Rattle.state.specs.Forms.{formsDecoder}
 use Rattle.state.specs.DecoderState.{decoderOf, overlayDecoder}
 use Rattle.reply.specs.Result.{Result, refused}
@@ -61,13 +62,18 @@ pub record Frees (m : List ℕ) (i : ℕ) : Type 0 where
       }
   pub no-room : (out : List ℕ) → length out < length (instructionWire (acknowledge i)) → collectCall m out ≡ refused m out no-room
 
+-- "a stream list for non-trailer blocks and one for trailer blocks": the deletion names the part by its own list
+abbrev pub Named : Delete → ℕ → Part → Type 0
+Named d s nontrailer = names (d .plain) s ≡ true
+Named d s trailer = names (d .trailer) s ≡ true
+
 -- of the memory m that a list of calls left; `deletions` gives the deletion that each slot is under, by those calls
 pub record ReadyHalf (m : List ℕ) (deletions : ℕ → Option Delete) : Type 0 where
   -- "a slot under deletion is ready to be freed exactly when no block that could still be accepted, in a part of a stream that the deletion
   -- names, might refer to it"
   pub exactly : (i : ℕ) (d : Delete) → deletions i ≡ some d
       → Ready m i
-      ↔ ((s : ℕ) (p : Part) (b : List ℕ) (rs : List Representation) → Small b → readBlock b ≡ block rs → namesPart d s p ≡ true → Refers rs i
+      ↔ ((s : ℕ) (p : Part) (b : List ℕ) (rs : List Representation) → Small b → readBlock b ≡ block rs → Named d s p → Refers rs i
       → CouldStill m s p b → ⊥)
   -- "A collect with room for its answer then frees one exactly when one is ready": it frees one that is under deletion and ready
   pub none-ready : ((i : ℕ) → Ready m i → ⊥) → (out : List ℕ) → collectCall m out ≡ record { answer = done 0 0; memory = m; output = out }

@@ -6,32 +6,38 @@ use Prim.Native.Nat.{ℕ, suc, _+_, _≤_, _<_, max}
 use mathlib.Core.Bool.{Bool, true, false, _&&_}
 use mathlib.Core.Option.{Option, none, some}
 use mathlib.Core.List.{List, [], _∷_}
-use lib.Dec.{eqb}
-use Rattle.memory.specs.Choice.{pick}
+use lib.Dec.{eqb, leb}
+use Rattle.memory.specs.Choice.{pick, need}
 use Rattle.memory.specs.Bytes.{Small}
+use Rattle.integers.specs.Answers.{Answer, done, refusal, not-allowed, vacant, not-under-deletion}
+use Rattle.integers.specs.Integer.{largest}
 use Rattle.statics.specs.Table.{Entry, entryAt}
 use Rattle.wire.specs.Name.{Name, indexed, literal}
-use Rattle.fields.specs.Form.{Field}
+use Rattle.fields.specs.Form.{Field, listForm}
 use Rattle.fields.specs.Reading.{readList}
 use Rattle.fields.specs.Reading as lists
 use Rattle.instructions.specs.Instruction.{insert, delete, instructionWire}
-use Rattle.blocks.specs.Representation.{Representation}
+use Rattle.blocks.specs.Representation.{Representation, blockWire}
 use Rattle.blocks.specs.Representation as representation
 use Rattle.blocks.specs.Reading.{BlockRead, block, readBlock}
 use Rattle.blocks.specs.Reading as reading
-use Rattle.blocks.specs.Meaning.{holds, blockReferences}
+use Rattle.blocks.specs.Meaning.{holds, withStatics, list, blockMeaning, blockReferences}
+use Rattle.blocks.specs.Meaning as meaning
 use Rattle.model.specs.Table.{look}
-use Rattle.model.specs.Parts.{Part, nontrailer, trailer, partNumber, Delete}
+use Rattle.model.specs.Parts.{Part, nontrailer, trailer, partOf, partNumber, Marks, noMarks, mark, closed, Delete, openBelow, lowestOpen, streams}
 use Rattle.model.specs.Decoder.{heldIndex, slotIn, deleteOf, ready}
 use Rattle.model.specs.Encoder.{mentions, emptyList}
-use Rattle.model.specs.Happened.{Happened, after, heldBy, deletionBy, contentsBy, Contents, empty, isHeld, addedBy, removedBy, sumOf}
+use Rattle.model.specs.Happened.{Happened, inserted, deleted, freed, after, heldBy, deletionBy, contentsBy, Contents, empty, isHeld, addedBy, removedBy, sumOf}
 use Rattle.state.specs.Layout.{heldOf}
 use Rattle.state.specs.DecoderState.{decoderOf}
 use Rattle.state.specs.Forms.{formsDecoder}
+use Rattle.parts.specs.Turn.{partTurn}
+use Rattle.reply.specs.Result.{Result}
 use Rattle.decoder.specs.Calls as decoder
 use Rattle.encoder.specs.Calls as encoder
 use Rattle.link.specs.Calls.{
   DecoderCall,
+  decoderResult,
   EncoderCall,
   encoderResult,
   AllDecoderBytes,
@@ -41,7 +47,7 @@ use Rattle.link.specs.Calls.{
   doneBytes,
 }
 use Rattle.link.specs.Calls as calls
-use Rattle.link.specs.Happened.{history, Ready, historyThere}
+use Rattle.link.specs.Happened.{managed, history, Ready, historyThere}
 
 -- ==== the decoder
 
@@ -49,16 +55,68 @@ use Rattle.link.specs.Happened.{history, Ready, historyThere}
 abbrev pub contentsIn : List ℕ → Contents
 contentsIn m i = slotIn (look heldIndex i (decoderOf m .entries))
 
--- history and table agree, after calls from the memory m, of which `contents` and `deletions` are what it holds
-pub record Agrees (m : List ℕ) (contents : Contents) (deletions : ℕ → Option Delete) (cs : List DecoderCall) : Type 0 where
+-- what a block call told and wrote is what its bytes mean against these contents: on 0 its fields, whole, on 1 "the first in byte order is told"
+pub record BlockMeans (t : Contents) (b : List ℕ) (r : Result) : Type 0 where
+  pub given : r .answer .number ≡ 0
+      → (rs : List Representation) × (fs : List Field) × (readBlock b ≡ block rs) × (blockMeaning (withStatics t) rs ≡ list fs) × (doneBytes r ≡ listForm fs)
+  pub waits : r .answer .number ≡ 1
+      → (rs : List Representation) × (readBlock b ≡ block rs) × (blockMeaning (withStatics t) rs ≡ meaning.BlockMeaning.waits (r .answer .first))
+
+-- ---- finished parts: "A non-trailer block answered "done" finishes its part .. the same for the trailer"; a closing answered "done" finishes its own
+unfoldable pub finishes : Option Part → ℕ → Marks → Marks
+finishes none s f = f
+finishes (some p) s f = mark s p f
+
+unfoldable pub finishedBy : Marks → DecoderCall → Result → Marks
+finishedBy f (calls.DecoderCall.read s) r = f
+finishedBy f (calls.DecoderCall.block stream part b out) r = pick (eqb (r .answer .number) 0) (finishes (partOf part) stream f) f
+finishedBy f (calls.DecoderCall.close k stream) r = pick (eqb (r .answer .number) 0) (closed k stream f) f
+finishedBy f (calls.DecoderCall.collect out) r = f
+finishedBy f (calls.DecoderCall.hold index) r = f
+
+unfoldable pub finishedAfter : Marks → List ℕ → List DecoderCall → Marks
+finishedAfter f m [] = f
+finishedAfter f m (c ∷ cs) = finishedAfter (finishedBy f c (decoderResult m c)) (decoderResult m c .memory) cs
+
+-- ---- the hold enquiry's whole answer: "5, 8, 10"; "how many named parts are unfinished and the lowest stream having one (4,096 if none)"
+abbrev pub holdTold : Option Delete → Marks → Answer
+holdTold none f = refusal not-under-deletion
+holdTold (some d) f = done (openBelow f d streams) (lowestOpen f d 0 streams)
+
+abbrev pub holdAnswer : Bool → Option Delete → Marks → ℕ → Answer
+holdAnswer held d f i = need (leb 62 i) (refusal not-allowed) (need (leb i largest) (refusal not-allowed) (need held (refusal vacant) (holdTold d f)))
+
+-- what a read may do to slots that are held so, and under these deletions: "insert 8, 6", "delete 8, 9"
+abbrev pub Lawful : (ℕ → Bool) → (ℕ → Option Delete) → List Happened → Type 0
+Lawful held deletions [] = Unit {0}
+Lawful held deletions (inserted i name value ∷ xs) = (held i ≡ false) × Lawful held deletions xs
+Lawful held deletions (deleted d ∷ xs) = (held (d .index) ≡ true) × (deletions (d .index) ≡ none) × Lawful held deletions xs
+Lawful held deletions (freed i ∷ xs) = ⊥
+
+-- history and table agree, after calls from the memory m, of which `contents`, `deletions` and `finished` are what it holds
+pub record Agrees (m : List ℕ) (contents : Contents) (deletions : ℕ → Option Delete) (finished : Marks) (cs : List DecoderCall) : Type 0 where
   -- the entry at each index, name and value
   pub entries : (i : ℕ) → contentsIn (decoderAfter m cs) i ≡ after contentsBy contents (history m cs) i
   -- held or empty
   pub held : (i : ℕ) → isHeld (contentsIn (decoderAfter m cs) i) ≡ after (heldBy i) (isHeld (contents i)) (history m cs)
   -- the deletion, with its lists
   pub deletion : (i : ℕ) → deleteOf (decoderOf (decoderAfter m cs)) i ≡ after (deletionBy i) (deletions i) (history m cs)
-  -- what the enquiry tells
+  -- the finished parts
+  pub parts : (s : ℕ) (p : Part) → decoderOf (decoderAfter m cs) .finished s p ≡ finishedAfter finished m cs s p
+  -- what the enquiry tells, by history
+  pub hold : (i : ℕ) → decoderResult (decoderAfter m cs) (calls.DecoderCall.hold i) .answer
+      ≡ holdAnswer (after (heldBy i) (isHeld (contents i)) (history m cs)) (after (deletionBy i) (deletions i) (history m cs)) (finishedAfter finished m cs) i
   pub enquiry : (i : ℕ) → Ready (decoderAfter m cs) i ↔ (ready (decoderOf (decoderAfter m cs)) i ≡ true)
+  -- "Out of turn: a part already finished .., or a trailer before its non-trailer", "stream above 4,095, part number not 0 .. or 1": 11 exactly then
+  pub turn : (stream part : ℕ) (b out : List ℕ) → Small b → Small out
+      → (decoderResult (decoderAfter m cs) (calls.DecoderCall.block stream part b out) .answer .number ≡ 11)
+      ↔ (partTurn (finishedAfter finished m cs) stream (partOf part) ≡ false)
+  -- an insert then done found its index empty, a delete found its entry held and not under deletion
+  pub lawful : (s : List ℕ) → Small s → decoderResult (decoderAfter m cs) (calls.DecoderCall.read s) .answer .number ≡ 0
+      → Lawful (λ i. after (heldBy i) (isHeld (contents i)) (history m cs)) (λ i. after (deletionBy i) (deletions i) (history m cs)) (managed s)
+  -- and what a block then offered means, in whatever part
+  pub means : (stream part : ℕ) (b out : List ℕ) → Small b → Small out
+      → BlockMeans (after contentsBy contents (history m cs)) b (decoderResult (decoderAfter m cs) (calls.DecoderCall.block stream part b out))
 
 -- ==== the encoder
 
@@ -151,7 +209,7 @@ pub record EncoderHistory (m : List ℕ) (cs : List EncoderCall) : Type 0 where
   pub block-lowest : (stream part : ℕ) (s out : List ℕ) → Small s → Small out
       → let r = encoderResult (encoderAfter m cs) (calls.EncoderCall.block stream part s out) in r .answer .number ≡ 0
       → (fs : List Field) × (rs : List Representation) × (readList s ≡ lists.ListRead.list fs) × (readBlock (doneBytes r) ≡ block rs)
-      × AllWrittenFor (historyThere m cs) fs rs
+      × (doneBytes r ≡ blockWire rs) × AllWrittenFor (historyThere m cs) fs rs
   -- "A delete is written with empty lists", and its horizons
   pub delete-says : (i : ℕ) (out : List ℕ) → Small out
       → let r = encoderResult (encoderAfter m cs) (calls.EncoderCall.delete i out) in r .answer .number ≡ 0
@@ -161,12 +219,18 @@ pub record EncoderHistory (m : List ℕ) (cs : List EncoderCall) : Type 0 where
 pub record HistoriesClaim : Type 0 where
   -- history and table agree at the decoder, from a start and from other memory that forms a state
   pub agree-start : (m : List ℕ) (limit : ℕ) → Small m → decoder.startCall m limit .answer .number ≡ 0 → (cs : List DecoderCall) → AllDecoderBytes cs
-      → Agrees (decoder.startCall m limit .memory) empty (λ i. none) cs
+      → Agrees (decoder.startCall m limit .memory) empty (λ i. none) noMarks cs
   pub agree-state : (m : List ℕ) → Small m → formsDecoder m ≡ true → (cs : List DecoderCall) → AllDecoderBytes cs
-      → Agrees m (contentsIn m) (deleteOf (decoderOf m)) cs
+      → Agrees m (contentsIn m) (deleteOf (decoderOf m)) (decoderOf m .finished) cs
   -- "At every moment it equals the sizes of all inserts done less the sizes of all entries freed since the start."
   pub decoder-held : (m : List ℕ) (limit : ℕ) → Small m → decoder.startCall m limit .answer .number ≡ 0 → (cs : List DecoderCall) → AllDecoderBytes cs
       → heldOf (decoderAfter (decoder.startCall m limit .memory) cs) + sumOf removedBy empty (history (decoder.startCall m limit .memory) cs)
       ≡ sumOf addedBy empty (history (decoder.startCall m limit .memory) cs)
+  -- "An insert that would pass it is 7": the limit that the start was given is never passed
+  pub decoder-within : (m : List ℕ) (limit : ℕ) → Small m → decoder.startCall m limit .answer .number ≡ 0 → (cs : List DecoderCall) → AllDecoderBytes cs
+      → heldOf (decoderAfter (decoder.startCall m limit .memory) cs) ≤ limit
+  -- the same at the encoder, and what its calls do
+  pub encoder-within : (m : List ℕ) (limit : ℕ) → Small m → encoder.startCall m limit .answer .number ≡ 0 → (cs : List EncoderCall) → AllEncoderBytes cs
+      → heldOf (encoderAfter (encoder.startCall m limit .memory) cs) ≤ limit
   pub encoder-history : (m : List ℕ) (limit : ℕ) → Small m → encoder.startCall m limit .answer .number ≡ 0 → (cs : List EncoderCall) → AllEncoderBytes cs
       → EncoderHistory (encoder.startCall m limit .memory) cs

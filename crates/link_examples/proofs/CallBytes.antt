@@ -2,7 +2,7 @@
 use mathlib.Core.Path.{_≡_}
 use mathlib.Core.Bool.{Bool, true, _&&_}
 use mathlib.Core.List.{List, [], _∷_}
-use Rattle.model.proofs.Marks.{and-both}
+use Rattle.model_laws.proofs.Marks.{and-both}
 use Rattle.link.specs.Calls.{EncoderCall, insert, delete, acknowledge, EncoderBytes}
 use Rattle.link.specs.Calls as calls
 use Rattle.link.specs.Claims.{LinkCall, LinkBytes, AllLinkBytes}

@@ -8,8 +8,8 @@ use mathlib.Core.Bool.{Bool, true, false, _&&_, _||_}
 use mathlib.Core.Option.{Option, none, some}
 use mathlib.Core.List.{List, [], _∷_, List·Memᴰ, List·Memᴰ·head, List·Memᴰ·tail, List·Memᴰ·cases-cons, List·Memᴰ·not-nil}
 use Rattle.memory.proofs.Order.{not-both}
-use Rattle.model.specs.Link.{at}
-use Rattle.model.proofs.Marks.{and-both, or-either}
+use Rattle.model.specs.Events.{at}
+use Rattle.model_laws.proofs.Marks.{and-both, or-either}
 
 -- ---- tests over lists
 module _ {X : Type 0} where

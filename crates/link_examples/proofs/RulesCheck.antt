@@ -6,7 +6,7 @@ use mathlib.Core.List.{List, [], _∷_, _++_}
 use lib.ListN.{length, drop}
 use lib.Dec.{eqb, leb}
 use Rattle.memory.specs.Compare.{same}
-use Rattle.model.specs.Link.{at}
+use Rattle.model.specs.Events.{at}
 use Rattle.model.specs.Parts.{Closing, ended}
 use Rattle.reply.specs.Result.{Result}
 use Rattle.link.specs.Calls.{DecoderCall, EncoderCall}

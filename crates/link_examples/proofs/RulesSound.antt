@@ -13,8 +13,8 @@ use Rattle.memory.specs.Compare.{same}
 use Rattle.memory.proofs.Order.{not-both}
 use Rattle.memory.proofs.Sameness.{same-eq}
 use Rattle.model.specs.Parts.{ended}
-use Rattle.model.specs.Link.{at}
-use Rattle.model.proofs.Marks.{and-both, or-either}
+use Rattle.model.specs.Events.{at}
+use Rattle.model_laws.proofs.Marks.{and-both, or-either}
 use Rattle.reply.specs.Result.{Result}
 use Rattle.link.specs.Calls.{DecoderCall}
 use Rattle.link.specs.Calls as calls

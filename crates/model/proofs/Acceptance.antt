@@ -1,26 +1,34 @@
 -- Document 01's rules as computed facts, its sentence over each. A definition that breaks a rule computes to something else here,
--- whatever shape the proofs of the laws have. AcceptanceCalls has the calls. (Modules are checked in order of their names, what they use
--- first: so the first error that such a definition meets stands here.)
+-- whatever shape the proofs of the laws have. AcceptanceCalls has the calls. (The laws are in crate model_laws, above this one: so what such
+-- a definition meets first stands here, in seconds.)
 use mathlib.Core.Path.{_≡_, refl}
-use mathlib.Core.List.{List, [], _∷_}
+use mathlib.Core.Bool.{true, false}
+use mathlib.Core.Option.{none, some}
+use mathlib.Core.List.{List, [], _∷_, _++_}
 use Rattle.integers.specs.Answers.{done, refusal}
 use Rattle.wire.specs.Name.{indexed as by-index, literal as by-bytes}
 use Rattle.wire.specs.StreamList.{StreamList}
 use Rattle.statics.specs.Ascii.{bytes}
 use Rattle.fields.specs.Form.{Field}
-use Rattle.instructions.specs.Instruction.{insert, delete}
+use Rattle.instructions.specs.Instruction.{Instruction, insert, delete, acknowledge}
 use Rattle.blocks.specs.Representation.{Representation, indexed, literal}
+use Rattle.blocks.specs.Meaning.{vacant, holds}
 use Rattle.model.specs.Outcome.{nothing, instruction, fields}
 use Rattle.model.specs.Outcome as outcome
 use Rattle.model.specs.DecoderCalls.{read, block, collect, hold}
 use Rattle.model.specs.Encoder.{emptyList}
 use Rattle.model.specs.EncoderCalls as at-encoder
+use Rattle.model.specs.Happened.{addedBy, removedBy}
 use Rattle.model.proofs.AcceptanceCalls.{
   decoderAnswers,
   decoderOutputs,
   freed,
   encoderAnswers,
   encoderOutputs,
+  heldAfter,
+  deletionAfter,
+  slotAfter,
+  sumAfter,
   field,
   insert-h9,
   deleteWith,
@@ -225,3 +233,39 @@ pub deleted-counted-encoder :
     done 6 62 ∷ done 4 63 ∷ done 5 0 ∷ refusal 7 ∷ done 1 0 ∷ done 4 62 ∷ []
 unfolding encoderAnswers
 deleted-counted-encoder = refl
+
+-- ---- what happened: the two entries of stored-whole, a delete of 62 with both lists, and 62 freed
+abbrev three : List Instruction
+three = insert 62 (by-bytes (bytes "turns")) (bytes "2") ∷ insert 63 (by-index 62) (bytes "0") ∷ delete 62 list-3-4-7 (emptyList 1) ∷ []
+
+abbrev then-freed : List Instruction
+then-freed = three ++ (acknowledge 62 ∷ [])
+
+-- "At the decoder a slot is empty except from an insert there answered "done" to the collect that frees it."
+pub empty-by-history :
+    (heldAfter three 62 ≡ true) × (heldAfter three 64 ≡ false) × (heldAfter then-freed 62 ≡ false) × (heldAfter then-freed 63 ≡ true)
+unfolding heldAfter
+empty-by-history = (refl, refl, refl, refl)
+
+-- an entry has the bytes that were inserted; a name given by index is that of the entry that stood there, and stays when that one is freed
+pub entry-by-history :
+    (slotAfter three 62 ≡ holds (record { name = bytes "turns"; value = bytes "2" })) ×
+    (slotAfter three 64 ≡ vacant) ×
+    (slotAfter then-freed 62 ≡ vacant) ×
+    (slotAfter then-freed 63 ≡ holds (record { name = bytes "turns"; value = bytes "0" }))
+unfolding slotAfter
+entry-by-history = (refl, refl, refl, refl)
+
+-- "A delete is kept with its lists", and goes with its entry
+pub deletion-by-history :
+    (deletionAfter three 62 ≡ some (record { index = 62; plain = list-3-4-7; trailer = emptyList 1 })) ×
+    (deletionAfter three 63 ≡ none) ×
+    (deletionAfter then-freed 62 ≡ none)
+unfolding deletionAfter
+deletion-by-history = (refl, refl, refl)
+
+-- "At every moment it equals the sizes of all inserts done less the sizes of all entries freed since the start."
+pub sizes-by-history :
+    (sumAfter addedBy then-freed ≡ 76) × (sumAfter removedBy three ≡ 0) × (sumAfter removedBy then-freed ≡ 38)
+unfolding sumAfter
+sizes-by-history = (refl, refl, refl)

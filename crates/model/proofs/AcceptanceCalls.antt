@@ -1,14 +1,18 @@
--- What short lists of calls at an end that starts fresh answer, write and free, as definitions that compute; and the calls that Acceptance makes.
+-- What short lists of calls at an end that starts fresh answer, write and free, and what a table holds by what happened to it, as definitions
+-- that compute; and the calls that Acceptance makes.
 use Prim.Native.Nat.{ℕ}
-use mathlib.Core.List.{List, [], _∷_}
+use mathlib.Core.Bool.{Bool, false}
+use mathlib.Core.Option.{Option, none}
+use mathlib.Core.List.{List, [], _∷_, _++_}
 use Rattle.integers.specs.Answers.{Answer}
 use Rattle.wire.specs.Name.{literal as by-bytes}
 use Rattle.wire.specs.StreamList.{StreamList}
 use Rattle.statics.specs.Ascii.{bytes}
 use Rattle.fields.specs.Form.{Field}
-use Rattle.instructions.specs.Instruction.{insert, delete, acknowledge}
+use Rattle.instructions.specs.Instruction.{Instruction, insert, delete, acknowledge}
 use Rattle.blocks.specs.Representation.{Representation, indexed}
-use Rattle.model.specs.Parts.{lowestOpen}
+use Rattle.blocks.specs.Meaning.{Slot}
+use Rattle.model.specs.Parts.{Delete, lowestOpen}
 use Rattle.model.specs.Parts as parts
 use Rattle.model.specs.Outcome.{Output, nothing, instruction, fields}
 use Rattle.model.specs.Outcome as outcome
@@ -17,6 +21,8 @@ use Rattle.model.specs.DecoderCalls.{DecoderCall, read, block, close, de
 use Rattle.model.specs.Encoder.{Encoder, startEncoder, emptyList}
 use Rattle.model.specs.EncoderCalls.{EncoderCall, encoderCall}
 use Rattle.model.specs.EncoderCalls as at-encoder
+use Rattle.model.specs.Happened.{Happened, doneBy, after, heldBy, deletionBy, Contents, empty, named, entryOf, contentsBy}
+use Rattle.model.specs.Happened.{sizeIn, addedBy, removedBy, sumOf}
 use Rattle.model.proofs.Running.{run}
 
 -- ---- what is computed: of each call in turn the answer, and the output
@@ -67,6 +73,27 @@ encoderAnswers limit cs = encoderAnswersFrom (startEncoder limit) cs
 unfoldable pub encoderOutputs : ℕ → List EncoderCall → List Output
 unfolding run
 encoderOutputs limit cs = encoderOutputsFrom (startEncoder limit) cs
+
+-- ---- what happened to a table by these instructions, each done in turn, and what follows from it
+abbrev pub happened : List Instruction → List Happened
+happened [] = []
+happened (i ∷ is) = doneBy i ++ happened is
+
+unfoldable pub heldAfter : List Instruction → ℕ → Bool
+unfolding after heldBy
+heldAfter is i = after (heldBy i) false (happened is)
+
+unfoldable pub deletionAfter : List Instruction → ℕ → Option Delete
+unfolding after deletionBy
+deletionAfter is i = after (deletionBy i) none (happened is)
+
+unfoldable pub slotAfter : List Instruction → ℕ → Slot
+unfolding run after named entryOf contentsBy
+slotAfter is i = after contentsBy empty (happened is) i
+
+unfoldable pub sumAfter : (Contents → Happened → ℕ) → List Instruction → ℕ
+unfolding run named entryOf contentsBy sizeIn addedBy removedBy sumOf
+sumAfter by is = sumOf by empty (happened is)
 
 -- ---- the calls that are made
 abbrev pub field : List ℕ → List ℕ → Field

@@ -1,5 +1,6 @@
 -- Both ends of a link: lists of calls, and what happened in them.
-use Prim.Native.Nat.{ℕ}
+use Prim.Native.Nat.{ℕ, zero, suc}
+use mathlib.Core.Option.{Option, none, some}
 use mathlib.Core.List.{List, [], _∷_}
 use lib.Dec.{eqb}
 use Rattle.memory.specs.Choice.{pick}
@@ -15,6 +16,12 @@ use Rattle.model.specs.DecoderCalls as at-decoder
 use Rattle.model.specs.Encoder.{Encoder, startEncoder}
 use Rattle.model.specs.EncoderCalls.{EncoderCall, encoderCall}
 use Rattle.model.specs.EncoderCalls as at-encoder
+
+-- the element at a place, from 0
+unfoldable pub at : {X : Type 0} → ℕ → List X → Option X
+at n [] = none
+at zero (x ∷ l) = some x
+at (suc n) (x ∷ l) = at n l
 
 -- a call at either end, or a stream that is reset, which calls neither. An offered block says which it is of those that the encoder wrote: the n-th;
 -- the decoder's other calls have no use for the number.

@@ -7,9 +7,4 @@ pub mod DecoderCalls
 pub mod Encoder
 pub mod EncoderCalls
 pub mod Happened
-pub mod Ready
-pub mod Promises
-pub mod History
 pub mod Events
-pub mod Link
-pub mod Demand

@@ -1,1 +1,1 @@
-// The model has no code: what the papers say of both tables stands in specs/, and demand 3 is proved of it in proofs/.
+// No code: what the papers say of both tables stands in specs/, and their rules are computed of it in proofs/.

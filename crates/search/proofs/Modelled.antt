@@ -9,7 +9,7 @@ use lib.Dec.{eqb}
 use Rattle.memory.specs.Choice.{pick}
 use Rattle.memory.proofs.Order.{pick-both, pick-true, pick-false}
 use Rattle.model.specs.Table.{Ascending, look, lowest, vacantFrom as lowestVacant}
-use Rattle.model.proofs.Tables.{nope, pick-eq, pick-lt, pick-yes, pick-no, look-below}
+use Rattle.model_laws.proofs.Tables.{nope, pick-eq, pick-lt, pick-yes, pick-no, look-below}
 use Rattle.state.specs.Layout.{indexAt}
 use Rattle.state.specs.Rows.{Row as TableRow, rowIndex, rowAt, rowsOf}
 use Rattle.search.specs.Search.{findFrom, vacantFrom, lowestRow}

@@ -9,7 +9,7 @@ use lib.Dec.{eqb}
 use borrow.Author.Tests.{eq-eqb, ne-eqb}
 use Rattle.memory.specs.Choice.{pick}
 use Rattle.memory.proofs.Order.{pick-true, pick-false}
-use Rattle.model.proofs.Tables.{nope}
+use Rattle.model_laws.proofs.Tables.{nope}
 use Rattle.state.specs.Layout.{countOf, rowPlace}
 use Rattle.search.specs.Search.{rowOf, servesAt, hasValueAt, servesBothAt, lowestRow, paired}
 use Rattle.search.specs.declared.names.Sought.{Sought}

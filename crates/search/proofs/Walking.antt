@@ -7,7 +7,7 @@ use mathlib.Core.List.{List}
 use lib.Dec.{eqb}
 use borrow.Author.Tests.{eq-eqb, ne-eqb}
 use Rattle.memory.proofs.Order.{pick-both, pick-true, pick-false}
-use Rattle.model.proofs.Tables.{nope}
+use Rattle.model_laws.proofs.Tables.{nope}
 use Rattle.state.specs.Layout.{indexAt}
 use Rattle.search.specs.Search.{vacantFrom, lowestRow}
 use Rattle.search.specs.declared.names.Sought.{Sought}

@@ -11,7 +11,7 @@ use borrow.Author.Tests.{leb-true, le-leb, lt-leb, eq-eqb, ne-eqb}
 use Rattle.memory.specs.Numbers.{number}
 use Rattle.memory.specs.Compare.{zerosAt}
 use Rattle.integers.specs.Integer.{largest}
-use Rattle.model.proofs.Marks.{and-both}
+use Rattle.model_laws.proofs.Marks.{and-both}
 use Rattle.state.specs.Layout.{
   decoderLength,
   encoderLength,

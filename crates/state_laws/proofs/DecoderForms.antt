@@ -16,8 +16,8 @@ use Rattle.integers.specs.Integer.{largest}
 use Rattle.model.specs.Table.{Ascending, look}
 use Rattle.model.specs.Parts.{Delete}
 use Rattle.model.specs.Decoder.{heldIndex, deleteIndex, Decoder, isSome, FineHeld}
-use Rattle.model.proofs.Marks.{and-both}
-use Rattle.model.proofs.Tables.{pick-eq}
+use Rattle.model_laws.proofs.Marks.{and-both}
+use Rattle.model_laws.proofs.Tables.{pick-eq}
 use Rattle.state.specs.Layout.{decoderLength, decoderRole, deletesPlace, deletePlace, limitOf, countOf, deleteCount, indexAt, statusAt}
 use Rattle.state.specs.Rows.{Row, rowIndex, rowAt, rowsOf}
 use Rattle.state.specs.Front.{Front, marksOf}

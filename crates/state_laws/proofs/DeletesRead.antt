@@ -17,7 +17,7 @@ use Rattle.wire.specs.StreamList.{StreamList, Fits}
 use Rattle.instructions.specs.Instruction.{FineList}
 use Rattle.model.specs.Parts.{Delete}
 use Rattle.model.specs.Decoder.{deleteIndex}
-use Rattle.model.proofs.Marks.{and-both}
+use Rattle.model_laws.proofs.Marks.{and-both}
 use Rattle.state.specs.Layout.{deletePlace}
 use Rattle.state.specs.DecoderState.{streamsAt, listAt, deleteAt, deletesOf, streamsBytes, listBytes, deleteBytes, deletesBytes}
 use Rattle.state.specs.Forms.{streamsOk, listOk, deletesOk}

@@ -5,7 +5,7 @@ use native.Mathlib.Omega.{arith}
 use mathlib.Core.Option.{Option, some}
 use mathlib.Core.List.{List, [], _∷_, map}
 use Rattle.model.specs.Table.{Ascending, look, put, cut}
-use Rattle.model.proofs.Tables.{nope, pick-eq, pick-lt, pick-yes, pick-no, look-below}
+use Rattle.model_laws.proofs.Tables.{nope, pick-eq, pick-lt, pick-yes, pick-no, look-below}
 
 -- every element has the property
 abbrev pub Each : {X : Type 0} → (X → Type 0) → List X → Type 0

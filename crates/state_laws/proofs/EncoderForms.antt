@@ -13,7 +13,7 @@ use Rattle.memory.proofs.Order.{split, pick-both, pick-false}
 use Rattle.model.specs.Table.{Ascending}
 use Rattle.model.specs.Parts.{streams}
 use Rattle.model.specs.Encoder.{Sent, sentIndex, Encoder, FineSent}
-use Rattle.model.proofs.Marks.{and-both}
+use Rattle.model_laws.proofs.Marks.{and-both}
 use Rattle.state.specs.Layout.{encoderLength, encoderRole, limitOf, countOf, deleteCount, indexAt, statusAt}
 use Rattle.state.specs.Rows.{Row, rowAt, rowsOf, textOf}
 use Rattle.state.specs.Front.{Front, marksOf}

@@ -18,7 +18,7 @@ use Rattle.marks.specs.Marks.{isSet, wordsBytes}
 use Rattle.marks.proofs.Words.{words-length, words-has, words-same}
 use Rattle.model.specs.Parts.{Part, nontrailer, trailer, streams}
 use Rattle.model.specs.Table.{Ascending}
-use Rattle.model.proofs.Marks.{and-both}
+use Rattle.model_laws.proofs.Marks.{and-both}
 use Rattle.state.specs.Layout.{
   february,
   marksPlace,

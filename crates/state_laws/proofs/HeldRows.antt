@@ -10,8 +10,8 @@ use Rattle.integers.specs.Integer.{largest}
 use Rattle.model.specs.Table.{size, Ascending, look, total}
 use Rattle.model.specs.Parts.{Delete}
 use Rattle.model.specs.Decoder.{Held, heldIndex, deleteIndex, Decoder, heldSize, isSome, FineHeld, FineDelete}
-use Rattle.model.proofs.Tables.{look-index}
-use Rattle.model.proofs.DecoderWays.{some-found}
+use Rattle.model_laws.proofs.Tables.{look-index}
+use Rattle.model_laws.proofs.DecoderWays.{some-found}
 use Rattle.state.specs.Rows.{Row, rowIndex, rowsSize}
 use Rattle.state.specs.DecoderState.{heldOfRow, placeFrom, rowOfHeld, decoderFront}
 use Rattle.state_laws.specs.Laws.{FitsDecoder}

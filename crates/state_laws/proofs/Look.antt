@@ -5,7 +5,7 @@ use mathlib.Core.Option.{Option, none, some, Option·map}
 use mathlib.Core.List.{List, [], _∷_, map}
 use Rattle.model.specs.Table.{Ascending, Distinct, look}
 use Rattle.model.specs.Decoder.{isSome}
-use Rattle.model.proofs.Tables.{nope, pick-eq, pick-yes, pick-no}
+use Rattle.model_laws.proofs.Tables.{nope, pick-eq, pick-yes, pick-no}
 use Rattle.state_laws.proofs.Each.{Each}
 
 module _ {X : Type 0} (index : X → ℕ) where

@@ -15,8 +15,8 @@ use Rattle.memory.proofs.Order.{split, pick-true, pick-false}
 use Rattle.model.specs.Table.{Ascending, Distinct, look}
 use Rattle.model.specs.Parts.{Delete}
 use Rattle.model.specs.Decoder.{deleteIndex, isSome}
-use Rattle.model.proofs.Tables.{nope, pick-eq, pick-yes, pick-no, look-below, look-index, look-none}
-use Rattle.model.proofs.DecoderWays.{some-found}
+use Rattle.model_laws.proofs.Tables.{nope, pick-eq, pick-yes, pick-no, look-below, look-index, look-none}
+use Rattle.model_laws.proofs.DecoderWays.{some-found}
 use Rattle.state.specs.Rows.{Row, rowIndex}
 use Rattle.state.specs.DecoderState.{placeFrom}
 use Rattle.state_laws.proofs.Each.{Each, each-weak, each-found, found-each}

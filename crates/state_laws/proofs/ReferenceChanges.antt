@@ -7,7 +7,7 @@ use mathlib.Core.Option.{Option, none, some, Option·map}
 use mathlib.Core.List.{List, [], _∷_, map}
 use Rattle.model.specs.Table.{Ascending, look, put, cut}
 use Rattle.model.specs.Encoder.{Sent, sentIndex, FineSent}
-use Rattle.model.proofs.Tables.{nope, pick-eq, pick-yes, pick-no, look-below, look-index, look-put, look-map, asc-put, asc-map}
+use Rattle.model_laws.proofs.Tables.{nope, pick-eq, pick-yes, pick-no, look-below, look-index, look-put, look-map, asc-put, asc-map}
 use Rattle.state.specs.EncoderState.{referenceOver, referencesOver}
 use Rattle.state_laws.proofs.Each.{Each, each-found, found-later, found-each, each-put, each-cut, each-map}
 use Rattle.state_laws.proofs.References.{HasReference, HasReferences, reference-same, references-same, references-beside}

@@ -14,7 +14,7 @@ use Rattle.memory.proofs.Places.{has-overlay, has-below, has-above}
 use Rattle.memory.proofs.Numbers.{number-same}
 use Rattle.model.specs.Table.{Ascending, look}
 use Rattle.model.specs.Encoder.{Sent, sentIndex, FineSent}
-use Rattle.model.proofs.Tables.{look-none, look-below}
+use Rattle.model_laws.proofs.Tables.{look-none, look-below}
 use Rattle.state.specs.Layout.{referencePlace}
 use Rattle.state.specs.EncoderState.{referenceOver, referencesOver}
 use Rattle.state_laws.proofs.Each.{Each, each-weak}

@@ -10,7 +10,7 @@ use lib.ListN.{length, length-append, length-take, drop}
 use Rattle.memory.proofs.Order.{split}
 use Rattle.memory.proofs.Places.{length-part}
 use Rattle.model.specs.Table.{Ascending}
-use Rattle.model.proofs.Marks.{and-both}
+use Rattle.model_laws.proofs.Marks.{and-both}
 use Rattle.state.specs.Layout.{textPlace, heldOf, indexAt, offsetAt, nameLengthAt, valueLengthAt, restAt}
 use Rattle.state.specs.Rows.{Row, rowIndex, rowAt, rowsOf, textOf, textBytes}
 use Rattle.state.specs.Forms.{rowOk, rowsOk}

@@ -9,7 +9,7 @@ use lib.ListN.{length}
 use lib.Dec.{leb}
 use Rattle.memory.specs.Bytes.{Small}
 use Rattle.integers.specs.Integer.{largest}
-use Rattle.model.proofs.Marks.{and-both}
+use Rattle.model_laws.proofs.Marks.{and-both}
 use Rattle.state.specs.Layout.{decoderLength, decoderRole, heldOf, countOf, deleteCount}
 use Rattle.state.specs.DecoderState.{decoderOf}
 use Rattle.state.specs.Forms.{headOk, rowsOk, statusOk, formsDecoder}

@@ -12,9 +12,9 @@ use Rattle.blocks.specs.Representation.{Representation, indexed, literal}
 use Rattle.blocks.specs.Meaning.{Slot, holds, isStatic, withStatics, onSlot, fieldMeaning, BlockMeaning, list, afterField, blockMeaning}
 use Rattle.model.specs.Table.{Ascending, look}
 use Rattle.model.specs.Encoder.{Sent, sentIndex, choose}
-use Rattle.model.proofs.Slots.Machine.{fieldOf, fieldNamed}
-use Rattle.model.proofs.Slots.Invariant.{MeantItem, meantGiven, meantIndex, meantName, fieldsOf, EachReference}
-use Rattle.model.proofs.EncoderItems.{entryOf, meant, meantBy, Serving, meant-fields, meant-served}
+use Rattle.model_laws.proofs.Slots.Machine.{fieldOf, fieldNamed}
+use Rattle.model_laws.proofs.Slots.Invariant.{MeantItem, meantGiven, meantIndex, meantName, fieldsOf, EachReference}
+use Rattle.model_laws.proofs.EncoderItems.{entryOf, meant, meantBy, Serving, meant-fields, meant-served}
 use Rattle.written.specs.Written.{slotOf}
 
 module _ (l : List Sent) where

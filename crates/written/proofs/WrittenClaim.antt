@@ -26,9 +26,9 @@ use Rattle.model.specs.Table.{look}
 use Rattle.model.specs.Parts.{partOf}
 use Rattle.model.specs.Outcome.{nothing, outputBytes}
 use Rattle.model.specs.Encoder.{Sent, sentIndex, Encoder, chooseName, deleteOfSent, encodeBlock, FormsEncoder}
-use Rattle.model.proofs.EncoderWays.{insertOf, insert-ways, delete-ways, block-ways}
-use Rattle.model.proofs.FormsSent.{new-fine}
-use Rattle.model.proofs.Saying.{name-fine, choices-fine}
+use Rattle.model_laws.proofs.EncoderWays.{insertOf, insert-ways, delete-ways, block-ways}
+use Rattle.model_laws.proofs.FormsSent.{new-fine}
+use Rattle.model_laws.proofs.Saying.{name-fine, choices-fine}
 use Rattle.state.specs.EncoderState.{encoderOf, overlayEncoder}
 use Rattle.state.specs.Forms.{formsEncoder}
 use Rattle.state_laws.proofs.EncoderLaws.{encoder-laws}

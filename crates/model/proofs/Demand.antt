@@ -1,8 +1,0 @@
--- Both lemmas of the model.
--- From its two halves, before and after "Hence".
-use Rattle.model.specs.Demand.{AbstractDemand}
-use Rattle.model.proofs.ReadyClaim.{ready-claim}
-use Rattle.model.proofs.LinkClaim.{link-claim}
-
-pub abstract-demand : AbstractDemand
-abstract-demand = record { before-hence = ready-claim; hence = link-claim }
