@@ -1,4 +1,6 @@
 pub mod Equations
+pub mod ShortEquations
+pub mod ShortReads
 pub mod Turns
 pub mod Writing
 pub mod Bounds

@@ -1,3 +1,4 @@
 // Header blocks: their representations read and written, and whole blocks checked.
 pub mod read;
+pub mod short;
 pub mod write;

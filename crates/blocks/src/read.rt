@@ -20,6 +20,11 @@ use wire::text::read_string;
 // The most bytes that a block has.
 pub const BLOCK_LIMIT: usize = 16_384;
 
+// The first bit of an indexed representation, and the N bit of a literal, in the first byte.
+pub const INDEXED: u8 = 128;
+
+pub const NEVER_STORE: u8 = 64;
+
 // A representation as it stands in a block.
 pub enum RepresentationPlace {
     Indexed(TableIndex),
@@ -59,10 +64,10 @@ fn read_indexed(s: &[u8], at: usize) -> RepresentationRead
 }
 
 // The N bit of a literal's first byte.
-fn flag_of(b: u8) -> u8
+pub fn flag_of(b: u8) -> u8
     ensures { λ r. ⌜ r ≡ flagOf b ⌝ }
 {
-    if b < 64 { 0 } else { 1 }
+    if b < NEVER_STORE { 0 } else { 1 }
 }
 
 fn read_literal(s: &[u8], at: usize) -> RepresentationRead
@@ -88,7 +93,7 @@ pub fn read_representation(s: &[u8], at: usize) -> RepresentationRead
     if s.len() <= at {
         return RepresentationRead::Refused(TRUNCATED);
     }
-    if s[at] < 128 {
+    if s[at] < INDEXED {
         return read_literal(s, at);
     }
     read_indexed(s, at)

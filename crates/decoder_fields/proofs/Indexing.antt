@@ -1,9 +1,12 @@
 -- An index told apart from what else is read: what each answer says of what was read, and that no index is read below 128.
 -- By the cases of what is read.
-use Prim.Native.Nat.{ℕ, _<_}
-use mathlib.Core.Path.{_≡_, refl, sym, ap, _∙_}
+use Prim.Native.Nat.{ℕ, _≤_, _<_}
+use mathlib.Core.Path.{_≡_, refl, sym, ap, subst, _∙_}
 use mathlib.Core.List.{List}
 use lib.ListN.{length, getD}
+use lib.Dec.{leb}
+use borrow.Author.Tests.{le-leb, lt-leb}
+use Rattle.memory.proofs.Order.{split, pick-true, pick-false}
 use Rattle.integers.specs.declared.number.TableIndex.{TableIndex}
 use Rattle.wire.specs.Text.{readString}
 use Rattle.wire.specs.Name.{readName}
@@ -18,8 +21,10 @@ use Rattle.blocks.specs.declared.read.RepresentationPlace.the-variants.{Indexed
 use Rattle.blocks.specs.declared.read.RepresentationRead.{RepresentationRead}
 use Rattle.blocks.specs.declared.read.RepresentationRead.the-variants.{Found, Refused}
 use Rattle.blocks.proofs.Equations.{literal-name-refused, literal-value-refused, literal-found, representation-literal}
+use Rattle.blocks.specs.declared.short.ShortIndex.{ShortIndex}
+use Rattle.blocks.specs.declared.short.ShortIndex.the-variants.{Found as ShortFound, Other as NoIndex}
 use Rattle.model_laws.proofs.Tables.{nope}
-use Rattle.decoder_fields.specs.Indexes.{indexIn, IsLiteral}
+use Rattle.decoder_fields.specs.Indexes.{indexIn, IsLiteral, rowIndex}
 use Rattle.decoder_fields.specs.declared.write.IndexedRead.the-variants.{Entry, Other}
 
 -- what was read, from what is told of it
@@ -48,3 +53,19 @@ module _ (s : List ℕ) (at : ℕ) where
 
   pub low-other : at < length s → getD s at 0 < 128 → Other ≡ indexIn (readRepresentation s at)
   low-other h k = sym (ap indexIn (representation-literal s at h k) ∙ literal-name _ refl)
+
+-- a short index of the header table
+pub row-static : {r : ShortIndex} {i : TableIndex} {next : ℕ} → r ≡ ShortFound i next → i .value ≤ 61 → rowIndex r ≡ NoIndex
+row-static {i = i} {next = next} e h = ap rowIndex e ∙ pick-true (leb (i .value) 61) NoIndex (ShortFound i next) (le-leb (i .value) 61 h)
+
+pub row-above : {r : ShortIndex} {i : TableIndex} {next : ℕ} → r ≡ ShortFound i next → 61 < i .value → rowIndex r ≡ ShortFound i next
+row-above {i = i} {next = next} e h = ap rowIndex e ∙ pick-false (leb (i .value) 61) NoIndex (ShortFound i next) (lt-leb (i .value) 61 h)
+
+pub row-found : (r : ShortIndex) (i : TableIndex) (next : ℕ) → rowIndex r ≡ ShortFound i next → (r ≡ ShortFound i next) × (61 < i .value)
+row-found NoIndex i next e = nope (cc)
+row-found (ShortFound j n) i next e =
+    split 61 (j .value)
+    (λ h. let d : ShortFound j n ≡ ShortFound i next = sym (row-above refl h) ∙ e in
+    let k : j ≡ i = cc in
+    (d, subst (λ (x : TableIndex). 61 < x .value) k h))
+    (λ h. let d : NoIndex ≡ ShortFound i next = sym (row-static refl h) ∙ e in nope (cc))

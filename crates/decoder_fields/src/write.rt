@@ -1,28 +1,34 @@
 // The fields of a block written in the host's list form.
 ghost use mathlib.Core.Path.{_≡_};
 ghost use Prim.Native.Nat.{ℕ, _+_, _-_, _<_, _≤_};
-ghost use lib.ListN.{length};
+ghost use lib.ListN.{length, getD};
 ghost use Rattle.memory.specs.Bytes.{overlay};
 ghost use Rattle.statics.specs.Table.{staticText};
 ghost use Rattle.wire.specs.Text.{InText, stringLength, stringBytes};
 ghost use Rattle.fields.specs.Form.{textForm, fieldForm};
 ghost use Rattle.blocks.specs.Representation.{Representation};
 ghost use Rattle.blocks.specs.Reading.{InBytes, readRepresentation};
+ghost use Rattle.blocks.specs.Short.{shortIndexAt, shortLiteralAt};
 ghost use Rattle.state.specs.Layout.{countOf};
 ghost use Rattle.state.specs.Rows.{nameAt, valueAt};
 ghost use Rattle.search.specs.Search.{Ordered};
 ghost use Rattle.decoder_survey.specs.Measure.{Stands, fieldOf, fieldAt, namedAt, literalAt, IsField, fieldBytes, ReadsWell, meaningOf, IsList, listBytes};
-ghost use Rattle.decoder_survey.specs.Passes.{rowField, ShortLiteral, shortForm, meaningFrom, Unwritten};
-ghost use Rattle.decoder_fields.specs.Indexes.{indexIn, IsLiteral};
+ghost use Rattle.decoder_survey.specs.Passes.{rowField, shortForm, meaningFrom, Unwritten};
+ghost use Rattle.decoder_fields.specs.Indexes.{indexIn, IsLiteral, rowIndex};
+use blocks::read::INDEXED;
 use blocks::read::RepresentationPlace;
 use blocks::read::RepresentationRead;
+use blocks::read::flag_of;
 use blocks::read::read_representation;
+use blocks::short::ShortIndex;
+use blocks::short::ShortLiteral;
+use blocks::short::read_next;
+use blocks::short::short_index;
+use blocks::short::short_literal;
 use decoder_survey::entry::place_of;
 use decoder_survey::entry::row_name;
 use decoder_survey::entry::row_of;
 use decoder_survey::entry::row_value;
-use decoder_survey::short::read_next;
-use decoder_survey::short::short_literal;
 use fields::write::write_field;
 use fields::write::write_length;
 use fields::write::write_text;
@@ -144,29 +150,31 @@ fn write_literal_place<'a>(
     }
 }
 
-// The index at the place `at`, if one is read there. Most take one byte, and for these no reader is asked, nor for a literal.
-fn read_index(s: &[u8], at: usize) -> IndexedRead
-    requires { ⌜ at < length (now s) ⌝ }
+// The index at the place `at`, if one is read there, whatever its form.
+fn read_any_index(s: &[u8], at: usize) -> IndexedRead
     ensures { λ r. ⌜ r ≡ indexIn (readRepresentation (now (s .entry)) at) ⌝ }
 {
-    let b = s[at];
-    if 128 < b && b < 255 {
-        return IndexedRead::Entry(
-            TableIndex {
-                value: (b as u32) - 128,
-            },
-            at + 1,
-        );
-    }
-    if b < 128 {
-        return IndexedRead::Other;
-    }
     let r = read_representation(s, at);
     let RepresentationRead::Found(place, next) = r else {
         return IndexedRead::Other;
     };
     let RepresentationPlace::Indexed(index) = place else {
         return IndexedRead::Other;
+    };
+    IndexedRead::Entry(index, next)
+}
+
+// The same. Most are short, and for these no reader is asked, nor for a literal.
+fn read_index(s: &[u8], at: usize) -> IndexedRead
+    requires { ⌜ at < length (now s) ⌝ }
+    ensures { λ r. ⌜ r ≡ indexIn (readRepresentation (now (s .entry)) at) ⌝ }
+{
+    if s[at] < INDEXED {
+        return IndexedRead::Other;
+    }
+    let i = short_index(s, at);
+    let ShortIndex::Found(index, next) = i else {
+        return read_any_index(s, at);
     };
     IndexedRead::Entry(index, next)
 }
@@ -201,12 +209,13 @@ fn write_rest(m: &[u8], s: &[u8], from: usize, out: &mut [u8], start: usize)
 
 // A short literal at the place `at`, up to the place `next`: from its second byte on it stands in the block as in the list.
 fn write_short(s: &[u8], at: usize, next: usize, out: &mut [u8], to: usize) -> usize
-    requires { ⌜ ShortLiteral (now s) at next ⌝ }
+    requires { ⌜ (at < length (now s)) × (getD (now s) at 0 < 128) × (shortLiteralAt (now s) at ≡ ShortLiteral.Ends next) ⌝ }
     requires { ⌜ to + (next - at) ≤ length (now out) ⌝ }
     ensures { λ r. ⌜ r ≡ to + length (shortForm (now (s .entry)) at next) ⌝ }
     ensures { λ _. ⌜ now (out .exit) ≡ overlay (now (out .entry)) to (shortForm (now (s .entry)) at next) ⌝ }
 {
-    out[to] = s[at] / 64;
+    let flag = flag_of(s[at]);
+    out[to] = flag;
     let from = at + 1;
     copy(&s[from..next], out, to + 1)
 }
@@ -241,6 +250,21 @@ fn write_dynamic(m: &[u8], index: TableIndex, out: &mut [u8], to: usize) -> usiz
     write_row(m, i, out, to)
 }
 
+// The short index of the header table at the place `at`. One function, so that the compiler makes one test of its three.
+fn short_row_index(s: &[u8], at: usize) -> ShortIndex
+    requires { ⌜ (at < length (now s)) × (128 ≤ getD (now s) at 0) ⌝ }
+    ensures { λ r. ⌜ r ≡ rowIndex (shortIndexAt (now (s .entry)) at) ⌝ }
+{
+    let i = short_index(s, at);
+    let ShortIndex::Found(index, next) = i else {
+        return ShortIndex::Other;
+    };
+    if index.value <= LAST {
+        return ShortIndex::Other;
+    }
+    ShortIndex::Found(index, next)
+}
+
 // All fields of a block that reads well and waits for nothing, from the front of the output. The first that is neither a short literal nor a short
 // index of the header table hands over to `write_rest`.
 pub fn write_fields(m: &[u8], s: &[u8], out: &mut [u8])
@@ -253,22 +277,22 @@ pub fn write_fields(m: &[u8], s: &[u8], out: &mut [u8])
     let mut to: usize = 0;
     let mut at: usize = 0;
     while at < s.len() {
-        if s[at] < 128 {
-            let next = short_literal(s, at);
-            if next == 0 {
+        if s[at] < INDEXED {
+            let l = short_literal(s, at);
+            let ShortLiteral::Ends(next) = l else {
                 write_rest(m, s, at, out, to);
                 return;
-            }
+            };
             to = write_short(s, at, next, out, to);
             at = next;
         } else {
-            let index = (s[at] as u32) - 128;
-            if index <= LAST || index == 127 {
+            let i = short_row_index(s, at);
+            let ShortIndex::Found(index, next) = i else {
                 write_rest(m, s, at, out, to);
                 return;
-            }
-            to = write_dynamic(m, TableIndex { value: index }, out, to);
-            at += 1;
+            };
+            to = write_dynamic(m, index, out, to);
+            at = next;
         }
     }
 }

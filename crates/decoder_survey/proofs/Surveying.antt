@@ -153,8 +153,8 @@ module _ (s : List ℕ) (at : ℕ) (index : TableIndex) where
   waiting-ends h = ap (waitsUnless index) (at-end s at h)
 
 pub waiting-told : (index : TableIndex) (b : BlockRead) → ToldSurvey (waitsUnless index b)
-waiting-told index (block rs) = tt
-waiting-told index (refused number) = tt
+waiting-told index (block rs) = λ e. absurd (omega arith)
+waiting-told index (refused number) = λ e. omega arith
 
 -- ---- a block
 

@@ -1,23 +1,21 @@
 -- What the two passes over a block find and write: its representations from a place on, one after the other.
-use Prim.Native.Nat.{ℕ, _+_, _-_, _≤_, _<_, _%_}
+use Prim.Native.Nat.{ℕ, _+_, _-_, _≤_}
 use mathlib.Core.Path.{_≡_}
 use mathlib.Core.List.{List, [], _∷_}
 use lib.ListN.{length, getD}
 use Rattle.memory.specs.Bytes.{part}
+use Rattle.integers.specs.Answers.{Answer, done, refusal}
 use Rattle.integers.specs.declared.number.TableIndex.{TableIndex}
-use Rattle.wire.specs.declared.name.NamePlace.the-variants.{Index}
 use Rattle.fields.specs.Form.{Field}
 use Rattle.blocks.specs.Representation.{Representation}
 use Rattle.blocks.specs.Reading.{BlockRead, block, blockFrom, readBlock, flagOf, onRepresentation, readRepresentation}
 use Rattle.blocks.specs.Reading as reading
 use Rattle.blocks.specs.Meaning.{Slot, vacant, holds, BlockMeaning, blockMeaning}
-use Rattle.blocks.specs.declared.read.RepresentationPlace.the-variants.{Literal}
-use Rattle.blocks.specs.declared.read.RepresentationRead.the-variants.{Found}
 use Rattle.model.specs.Decoder.{lookup}
 use Rattle.state.specs.Layout.{nameLengthAt, valueLengthAt}
 use Rattle.state.specs.Rows.{nameAt, valueAt}
 use Rattle.state.specs.DecoderState.{decoderOf}
-use Rattle.decoder_survey.specs.Measure.{fieldAt, fieldMeasured, representations, IsList, listBytes, blockMeasured}
+use Rattle.decoder_survey.specs.Measure.{waitsFor, fieldAt, fieldMeasured, representations, IsList, listBytes, blockMeasured}
 use Rattle.decoder_survey.specs.declared.entry.EntryLengths.{EntryLengths}
 use Rattle.decoder_survey.specs.declared.entry.EntryLengths.the-variants.{Of, Vacant}
 use Rattle.decoder_survey.specs.declared.measure.Measured.{Measured}
@@ -26,6 +24,20 @@ use Rattle.decoder_survey.specs.declared.measure.Step.{Step}
 use Rattle.decoder_survey.specs.declared.measure.Step.the-variants.{Field as StepField, Waits as StepWaits, Refused as StepRefused}
 use Rattle.decoder_survey.specs.declared.measure.Survey.{Survey}
 use Rattle.decoder_survey.specs.declared.measure.Survey.the-variants.{Bytes, Waits, Refused}
+
+-- ---- answers
+
+-- of one representation: the bytes of its field and the place after it are told, or the index that is waited for
+abbrev pub stepAnswer : Step → Answer
+stepAnswer (StepField n next) = done n next
+stepAnswer (StepWaits index next) = waitsFor index
+stepAnswer (StepRefused number) = refusal number
+
+-- of a whole block: the bytes of its fields are told, or the index that is waited for
+abbrev pub surveyAnswer : Survey → Answer
+surveyAnswer (Bytes n) = done n 0
+surveyAnswer (Waits index) = waitsFor index
+surveyAnswer (Refused number) = refusal number
 
 -- ---- entries
 
@@ -41,30 +53,9 @@ lengthsIn (holds e) = Of (length (e .name)) (length (e .value))
 abbrev pub rowField : List ℕ → ℕ → Field
 rowField m i = record { flag = 0; name = nameAt m i; value = valueAt m i }
 
--- ---- short representations
+-- ---- short literals
 
--- the string at the place at, up to the place next: its length takes one byte
-pub record ShortString (s : List ℕ) (at next : ℕ) : Type 0 where
-  pub low : getD s at 0 < 127
-  pub ends : next ≡ at + 1 + getD s at 0
-  pub inside : next ≤ length s
-
--- what is read at the place at is a literal with an entry's name and the value from the place start to the place next
-pub record ShortNamed (s : List ℕ) (at index start next : ℕ) : Type 0 where
-  pub order : start ≤ next
-  pub reads : readRepresentation s at
-      ≡ Found (Literal (flagOf (getD s at 0)) (Index (record { value = index })) (record { start = start; size = next - start })) next
-
--- at the place at, up to the place next: the name is a string, and both lengths take one byte
-pub record ShortLiteral (s : List ℕ) (at next : ℕ) : Type 0 where
-  pub low : getD s at 0 < 128
-  pub text : getD s at 0 % 64 ≡ 0
-  pub name : getD s (at + 1) 0 < 127
-  pub value : getD s (at + 2 + getD s (at + 1) 0) 0 < 127
-  pub ends : next ≡ at + 3 + getD s (at + 1) 0 + getD s (at + 2 + getD s (at + 1) 0) 0
-  pub inside : next ≤ length s
-
--- its field in the list's form: the flag, and what stands in the block behind the first byte
+-- the field of one up to the place next, in the list's form: the flag, and what stands in the block behind the first byte
 abbrev pub shortForm : List ℕ → ℕ → ℕ → List ℕ
 shortForm s at next = flagOf (getD s at 0) ∷ part s (at + 1) (next - (at + 1))
 
@@ -101,9 +92,7 @@ blockSurvey m s = surveyOf m (readBlock s)
 
 -- a field takes at most 2,307 bytes and a byte of the block at least, so the told number has room for the fields of a block
 abbrev pub ToldSurvey : Survey → Type 0
-ToldSurvey (Bytes n) = n ≤ 37797888
-ToldSurvey (Waits index) = Unit {0}
-ToldSurvey (Refused number) = Unit {0}
+ToldSurvey r = surveyAnswer r .number ≡ 0 → surveyAnswer r .first ≤ 37797888
 
 -- ---- the second pass
 

@@ -1,4 +1,3 @@
-// The first pass over a header block: what it refuses, what it waits for, or how long its fields are. The second pass uses the same short forms and entries.
+// The first pass over a header block: what it refuses, what it waits for, or how long its fields are. The second pass uses the same entries.
 pub mod entry;
 pub mod measure;
-pub mod short;

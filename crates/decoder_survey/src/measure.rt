@@ -1,20 +1,24 @@
 // The first pass over a block: is it read whole, does it name a vacant index, and how many bytes do its fields take in the host's list form?
 ghost use mathlib.Core.Path.{_≡_};
 ghost use Prim.Native.Nat.{ℕ, _<_};
-ghost use lib.ListN.{length};
+ghost use lib.ListN.{length, getD};
 ghost use Rattle.blocks.specs.Representation.{Representation};
 ghost use Rattle.blocks.specs.Reading.{InBytes};
 ghost use Rattle.decoder_survey.specs.Measure.{Stands, fieldOf, fieldAt, namedAt, fieldMeasured};
-ghost use Rattle.decoder_survey.specs.Passes.{ShortNamed, stepOf, stepAt, waitsUnless, restAt, blockSurvey, ToldSurvey};
+ghost use Rattle.decoder_survey.specs.Passes.{stepOf, stepAt, waitsUnless, restAt, blockSurvey, ToldSurvey};
 use crate::entry::EntryLengths;
 use crate::entry::entry_lengths;
-use crate::short::NamedLiteral;
-use crate::short::short_literal;
-use crate::short::short_named;
 use blocks::read::BLOCK_LIMIT;
+use blocks::read::INDEXED;
 use blocks::read::RepresentationPlace;
 use blocks::read::RepresentationRead;
 use blocks::read::read_representation;
+use blocks::short::ShortIndex;
+use blocks::short::ShortLiteral;
+use blocks::short::ShortNamed;
+use blocks::short::short_index;
+use blocks::short::short_literal;
+use blocks::short::short_named;
 use fields::write::field_size;
 use integers::answer::TOO_LONG;
 use integers::number::TableIndex;
@@ -89,34 +93,11 @@ fn step_of(n: Measured, next: usize) -> Step
     }
 }
 
-// The literal with its name by a short index at the place `at`, which stands there.
-fn named_step(m: &[u8], s: &[u8], at: usize, literal: NamedLiteral) -> Step
-    requires { ⌜ Stands (now m) × ShortNamed (now s) at (literal .index) (literal .start) (literal .next) ⌝ }
-    ensures { λ r. ⌜ r ≡ stepAt (now (m .entry)) (now (s .entry)) at ⌝ }
-{
-    let index = TableIndex {
-        value: literal.index,
-    };
-    let start = literal.start;
-    let next = literal.next;
-    let value = StringPlace {
-        start,
-        size: next - start,
-    };
-    step_of(named_size(m, s, index, value), next)
-}
-
 // The representation at the place `at`, whatever its form.
 fn read_step(m: &[u8], s: &[u8], at: usize) -> Step
-    requires { ⌜ Stands (now m) × (at < length (now s)) ⌝ }
+    requires { ⌜ Stands (now m) ⌝ }
     ensures { λ r. ⌜ r ≡ stepAt (now (m .entry)) (now (s .entry)) at ⌝ }
 {
-    if s[at] < 128 {
-        let literal = short_named(s, at);
-        if literal.index != 0 {
-            return named_step(m, s, at, literal);
-        }
-    }
     let r = read_representation(s, at);
     let RepresentationRead::Found(place, next) = r else {
         return Step::Refused(r.number());
@@ -124,24 +105,35 @@ fn read_step(m: &[u8], s: &[u8], at: usize) -> Step
     step_of(field_measured(m, s, place), next)
 }
 
-// The same. A short literal takes as many bytes in the list as in the block; an indexed representation of one byte says neither 0 nor 127,
-// after which more bytes follow.
+// The same of a literal; one with its name by a short index is looked for first.
+fn literal_step(m: &[u8], s: &[u8], at: usize) -> Step
+    requires { ⌜ Stands (now m) × (at < length (now s)) × (getD (now s) at 0 < 128) ⌝ }
+    ensures { λ r. ⌜ r ≡ stepAt (now (m .entry)) (now (s .entry)) at ⌝ }
+{
+    let n = short_named(s, at);
+    let ShortNamed::Found(index, value, next) = n else {
+        return read_step(m, s, at);
+    };
+    step_of(named_size(m, s, index, value), next)
+}
+
+// The same of any representation, short forms first. A short literal takes as many bytes in the list as in the block.
 fn next_step(m: &[u8], s: &[u8], at: usize) -> Step
     requires { ⌜ Stands (now m) × (at < length (now s)) ⌝ }
     ensures { λ r. ⌜ r ≡ stepAt (now (m .entry)) (now (s .entry)) at ⌝ }
 {
-    if s[at] < 128 {
-        let next = short_literal(s, at);
-        if 0 < next {
-            return Step::Field(next - at, next);
-        }
-        return read_step(m, s, at);
+    if s[at] < INDEXED {
+        let l = short_literal(s, at);
+        let ShortLiteral::Ends(next) = l else {
+            return literal_step(m, s, at);
+        };
+        return Step::Field(next - at, next);
     }
-    let index = (s[at] as u32) - 128;
-    if index == 0 || index == 127 {
+    let i = short_index(s, at);
+    let ShortIndex::Found(index, next) = i else {
         return read_step(m, s, at);
-    }
-    step_of(indexed_size(m, TableIndex { value: index }), at + 1)
+    };
+    step_of(indexed_size(m, index), next)
 }
 
 // A block that waits: what stands from the place `from` on must be read all the same, since a refusal comes first.

@@ -4,6 +4,7 @@ pub mod Bounds
 pub mod Back
 pub mod Lengths
 pub mod Shortest
+pub mod Short
 pub mod Kept
 pub mod Vectors
 pub mod Told

@@ -4,10 +4,12 @@ use Prim.Native.Nat.{ℕ, zero, suc, _+_, _-_, _*_, _/_, _%_, _^_}
 use mathlib.Core.List.{List, [], _∷_}
 use lib.ListN.{length, getD}
 use lib.Dec.{ltb, leb}
-use Rattle.memory.specs.Choice.{pick}
+use Rattle.memory.specs.Choice.{pick, need}
 use Rattle.integers.specs.Answers.{Answer, done, refusal, truncated, too-large}
 use Rattle.integers.specs.declared.integer.IntRead.{IntRead}
 use Rattle.integers.specs.declared.integer.IntRead.the-variants.{Value, Refused}
+use Rattle.integers.specs.declared.integer.ShortInt.{ShortInt}
+use Rattle.integers.specs.declared.integer.ShortInt.the-variants.{Value as ShortValue, Other}
 
 -- "values up to 134,217,727 (2^27 − 1)"
 abbrev pub largest : ℕ
@@ -50,6 +52,21 @@ readInt k s at =
     (value (getD s at 0 % 2 ^ k) (at + 1))
     (groups 4 s (at + 1) (getD s at 0 % 2 ^ k) 1))
     (Refused truncated)
+
+-- the same integer exactly where it takes one byte or two: the prefix alone, or a prefix of all ones and one group
+unfoldable pub shortIntAt : ℕ → List ℕ → ℕ → ShortInt
+shortIntAt k s at =
+    need (ltb at (length s)) Other
+    (pick (ltb (getD s at 0 % 2 ^ k) (2 ^ k - 1))
+    (ShortValue (record { value = getD s at 0 % 2 ^ k }) (at + 1))
+    (need (ltb (at + 1) (length s)) Other
+    (need (ltb (getD s (at + 1) 0) 128) Other
+    (ShortValue (record { value = getD s at 0 % 2 ^ k + getD s (at + 1) 0 }) (at + 1 + 1)))))
+
+-- what follows a short number and the place after it, or what is said where none stands there
+abbrev pub onShortInt {ℓ} : {X : Type ℓ} → X → ShortInt → (ℕ → ℕ → X) → X
+onShortInt other (ShortValue n next) f = f (n .value) next
+onShortInt other Other f = other
 
 -- r in groups of seven bits, low group first, in at most n + 1 groups
 unfoldable pub groupWire : ℕ → ℕ → List ℕ

@@ -3,7 +3,7 @@ ghost use mathlib.Core.Path.{_≡_};
 ghost use Prim.Native.Nat.{ℕ, _+_, _*_, _^_, _<_, _≤_};
 ghost use lib.ListN.{length};
 ghost use Rattle.memory.specs.Bytes.{overlay};
-ghost use Rattle.integers.specs.Integer.{intAnswer, readInt, groups, largest, intWire, groupWire};
+ghost use Rattle.integers.specs.Integer.{intAnswer, readInt, groups, largest, shortIntAt, intWire, groupWire};
 use crate::answer::TOO_LARGE;
 use crate::answer::TRUNCATED;
 
@@ -16,6 +16,12 @@ pub struct WireInt {
 pub enum IntRead {
     Value(WireInt, usize),
     Refused(u8),
+}
+
+// What looking for a short one finds: the number and the place after it, or that none stands there.
+pub enum ShortInt {
+    Value(WireInt, usize),
+    Other,
 }
 
 impl IntRead {
@@ -50,6 +56,12 @@ impl WireInt {
 
     pub const PREFIX8: u32 = 8;
 
+    // A prefix of all ones, after which groups follow: the first value that takes more than one byte.
+    pub const ONES7: u32 = (1 << Self::PREFIX7) - 1;
+
+    // The values of a group: a byte from here on says that another follows.
+    pub const GROUP: u32 = 128;
+
     pub const LARGEST: u32 = 134_217_727;
 
     pub const GROUPS: u32 = 4;
@@ -78,6 +90,30 @@ impl WireInt {
         Self::read_groups(s, next, first)
     }
 
+    // The same integer, if it takes one byte or two. Most do, so whoever reads many looks for these first.
+    pub fn short(s: &[u8], at: usize, width: u32) -> ShortInt
+        requires { ⌜ (1 ≤ width) × (width ≤ 8) ⌝ }
+        ensures { λ r. ⌜ r ≡ shortIntAt width (now (s .entry)) at ⌝ }
+    {
+        if s.len() <= at {
+            return ShortInt::Other;
+        }
+        let full = power(width);
+        let first = wide(s[at]) % full;
+        let next = at + 1;
+        if first < full - 1 {
+            return ShortInt::Value(Self::new(first), next);
+        }
+        if s.len() <= next {
+            return ShortInt::Other;
+        }
+        let group = wide(s[next]);
+        if Self::GROUP <= group {
+            return ShortInt::Other;
+        }
+        ShortInt::Value(Self::new(first + group), next + 1)
+    }
+
     // The groups from the place `at` on, above the prefix's value.
     fn read_groups(s: &[u8], at: usize, first: u32) -> IntRead
         requires { ⌜ first ≤ 255 ⌝ }
@@ -92,15 +128,15 @@ impl WireInt {
                 return IntRead::Refused(TRUNCATED);
             }
             let b = wide(s[next]);
-            value += b % 128 * weight;
+            value += b % Self::GROUP * weight;
             next += 1;
-            if b < 128 {
+            if b < Self::GROUP {
                 if value <= Self::LARGEST {
                     return IntRead::Value(WireInt { value }, next);
                 }
                 return IntRead::Refused(TOO_LARGE);
             }
-            weight *= 128;
+            weight *= Self::GROUP;
             left -= 1;
         }
         IntRead::Refused(TOO_LARGE)
@@ -134,9 +170,9 @@ impl WireInt {
     {
         let mut left = rest;
         let mut next = at;
-        while 128 <= left {
-            out[next] = (left % 128 + 128) as u8;
-            left = left / 128;
+        while Self::GROUP <= left {
+            out[next] = (left % Self::GROUP + Self::GROUP) as u8;
+            left = left / Self::GROUP;
             next += 1;
         }
         out[next] = left as u8;

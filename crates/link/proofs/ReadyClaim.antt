@@ -31,7 +31,7 @@ use Rattle.decoder.specs.Calls.{collectCall}
 use Rattle.link.specs.Calls.{decoderResult}
 use Rattle.link.specs.Calls as calls
 use Rattle.link.specs.Happened.{Ready}
-use Rattle.link.specs.Claims.{CouldStill, Frees, Named, ReadyHalf, ReadyClaim}
+use Rattle.link.specs.Claims.{CouldStill, Frees, NamedPart, ReadyHalf, ReadyClaim}
 use Rattle.link.proofs.Lifted.{StandsDecoder, decoderCallOf}
 use Rattle.link.proofs.DecoderLifting.{same-decoder, stands-self-decoder, start-decoder}
 use Rattle.link.proofs.Runs.{after-decoder}
@@ -43,12 +43,12 @@ unfolding blockReferences
 refers-itself i = List·Memᴰ·head refl
 
 -- a part named by its own list
-named-part : (d : Delete) (s : ℕ) (p : Part) → Named d s p → namesPart d s p ≡ true
+named-part : (d : Delete) (s : ℕ) (p : Part) → NamedPart d s p → namesPart d s p ≡ true
 unfolding namesPart
 named-part d s nontrailer n = n
 named-part d s trailer n = n
 
-part-named : (d : Delete) (s : ℕ) (p : Part) → namesPart d s p ≡ true → Named d s p
+part-named : (d : Delete) (s : ℕ) (p : Part) → namesPart d s p ≡ true → NamedPart d s p
 unfolding namesPart
 part-named d s nontrailer n = n
 part-named d s trailer n = n
@@ -70,7 +70,7 @@ module _ (m : List ℕ) (small : Small m) (forms : formsDecoder m ≡ true) wher
   module _ (i : ℕ) (d : Delete) (e : deleteOf D i ≡ some d) where
     -- no block of bytes that could still be accepted in a named part refers to the entry
     abbrev Unreachable : Type 0
-    Unreachable = (s : ℕ) (p : Part) (b : List ℕ) (rs : List Representation) → Small b → readBlock b ≡ block rs → Named d s p → Refers rs i
+    Unreachable = (s : ℕ) (p : Part) (b : List ℕ) (rs : List Representation) → Small b → readBlock b ≡ block rs → NamedPart d s p → Refers rs i
         → CouldStill m s p b → ⊥
 
     ready-unreachable : ready D i ≡ true → Unreachable

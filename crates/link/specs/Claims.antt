@@ -63,9 +63,9 @@ pub record Frees (m : List ℕ) (i : ℕ) : Type 0 where
   pub no-room : (out : List ℕ) → length out < length (instructionWire (acknowledge i)) → collectCall m out ≡ refused m out no-room
 
 -- "a stream list for non-trailer blocks and one for trailer blocks": the deletion names the part by its own list
-abbrev pub Named : Delete → ℕ → Part → Type 0
-Named d s nontrailer = names (d .plain) s ≡ true
-Named d s trailer = names (d .trailer) s ≡ true
+abbrev pub NamedPart : Delete → ℕ → Part → Type 0
+NamedPart d s nontrailer = names (d .plain) s ≡ true
+NamedPart d s trailer = names (d .trailer) s ≡ true
 
 -- of the memory m that a list of calls left; `deletions` gives the deletion that each slot is under, by those calls
 pub record ReadyHalf (m : List ℕ) (deletions : ℕ → Option Delete) : Type 0 where
@@ -73,7 +73,7 @@ pub record ReadyHalf (m : List ℕ) (deletions : ℕ → Option Delete) : Type 0
   -- names, might refer to it"
   pub exactly : (i : ℕ) (d : Delete) → deletions i ≡ some d
       → Ready m i
-      ↔ ((s : ℕ) (p : Part) (b : List ℕ) (rs : List Representation) → Small b → readBlock b ≡ block rs → Named d s p → Refers rs i
+      ↔ ((s : ℕ) (p : Part) (b : List ℕ) (rs : List Representation) → Small b → readBlock b ≡ block rs → NamedPart d s p → Refers rs i
       → CouldStill m s p b → ⊥)
   -- "A collect with room for its answer then frees one exactly when one is ready": it frees one that is under deletion and ready
   pub none-ready : ((i : ℕ) → Ready m i → ⊥) → (out : List ℕ) → collectCall m out ≡ record { answer = done 0 0; memory = m; output = out }

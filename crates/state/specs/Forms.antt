@@ -1,4 +1,4 @@
--- What forms a state: "docs/ says exactly what forms one". A computed test, linear in what is used; nothing unused is looked at.
+-- What forms a state: "docs/ says exactly what forms one". A computed test, linear in what is used. docs/STATE.md has the bytes that it looks at.
 use Prim.Native.Nat.{ℕ, zero, suc, _+_, _*_, _-_}
 use mathlib.Core.Bool.{Bool, true, _&&_}
 use mathlib.Core.List.{List}

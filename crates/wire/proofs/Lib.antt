@@ -1,4 +1,5 @@
 pub mod Strings
+pub mod ShortStrings
 pub mod TextWriting
 pub mod TextBounds
 pub mod TextBack

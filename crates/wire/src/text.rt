@@ -4,6 +4,7 @@ ghost use Prim.Native.Nat.{ℕ, _+_, _≤_};
 ghost use lib.ListN.{length};
 ghost use Rattle.memory.specs.Bytes.{overlay};
 ghost use Rattle.wire.specs.Text.{InText, stringAnswer, stringLength, stringBytes, readString, stringWire};
+ghost use Rattle.wire.specs.Short.{shortStringAt};
 use integers::answer::PACKED;
 use integers::answer::TOO_LONG;
 use integers::answer::TRUNCATED;
@@ -27,6 +28,12 @@ pub struct StringPlace {
 pub enum StringRead {
     Found(StringPlace, usize),
     Refused(u8),
+}
+
+// What looking for a short string finds: its place and the place after it, or that none stands there.
+pub enum ShortString {
+    Found(StringPlace, usize),
+    Other,
 }
 
 impl StringRead {
@@ -85,6 +92,34 @@ pub fn read_string(s: &[u8], at: usize, limit: usize) -> StringRead
         return StringRead::Found(StringPlace { start, size }, next);
     }
     StringRead::Refused(TRUNCATED)
+}
+
+// A byte as a number.
+fn wide(x: u8) -> u32
+    ensures { λ r. ⌜ r ≡ x ⌝ }
+{
+    x as u32
+}
+
+// The string at the place `at`, if its length takes one byte: then H is not set, and it is within every limit. Most are, so whoever reads many
+// looks for these first.
+pub fn short_string(s: &[u8], at: usize) -> ShortString
+    ensures { λ r. ⌜ r ≡ shortStringAt (now (s .entry)) at ⌝ }
+{
+    if s.len() <= at {
+        return ShortString::Other;
+    }
+    let length = wide(s[at]);
+    if WireInt::ONES7 <= length {
+        return ShortString::Other;
+    }
+    let size = length as usize;
+    let start = at + 1;
+    if s.len() - start < size {
+        return ShortString::Other;
+    }
+    let next = start + size;
+    ShortString::Found(StringPlace { start, size }, next)
 }
 
 // Writes the string `src` at the place `at`, and answers the place after it.

@@ -75,7 +75,7 @@ clear-requires c κs =
 cast-done : tie.Need-cast-done
 cast-done c =
     let known = c .before .before .before .before .before .before .before .before .before .before .before in
-    let t = subst ToldSurvey (known .before .n .given .1) (known .before .before .before .survey-block .ensures .1) in
+    let t = subst ToldSurvey (known .before .n .given .1) (known .before .before .before .survey-block .ensures .1) refl in
     omega (arith, t)
 
 done-requires : tie.Need-done-requires

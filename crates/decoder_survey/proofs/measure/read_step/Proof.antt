@@ -1,6 +1,5 @@
--- `read_step` meets its contract: a short name by its index first; else the refusal, or the measure of what was read.
+-- `read_step` meets its contract: the refusal, or the measure of what was read.
 use mathlib.Core.Path.{_≡_, sym, ap, _∙_}
-use native.Mathlib.Omega.{arith}
 use denote.Ref.{now}
 use Prim.Native.Nat.{ℕ}
 use Rattle.blocks.specs.Reading.{onRepresentation, representationAnswer, readRepresentation}
@@ -22,20 +21,8 @@ step-by c r =
     onRepresentation Refused r (λ (p : RepresentationPlace) (next : ℕ). stepOf (fieldMeasured (fieldAt (now (c .args .m)) (now (c .args .s)) p)) next)
 
 -- what was read
-read : (c : tie.After-known-told) → let a = c .before .before .before .before .before .before .before .before .args in let p = c .before .r .given .0 in readRepresentation (now (a .s)) (a .at) ≡ Found (p .0) (p .1 .0)
+read : (c : tie.After-known-told) → let a = c .before .before .before .before .before .before .args in let p = c .before .r .given .0 in readRepresentation (now (a .s)) (a .at) ≡ Found (p .0) (p .1 .0)
 read c = sym (c .before .before .before .read-representation .ensures) ∙ c .before .r .given .1
-
-shared-slice-read-if1 : tie.Need-shared-slice-read-if1
-shared-slice-read-if1 c = search needs
-
-short-named-requires : tie.Need-short-named-requires
-short-named-requires c κs = search needs
-
-named-step-requires : tie.Need-named-step-requires
-named-step-requires c κs = (c .before .before .before .before .before .before .before .pre .0, c .before .before .short-named .ensures (omega (arith, c .if2 .taken)))
-
-returns : tie.Need-returns
-returns c = search needs
 
 read-representation-requires : tie.Need-read-representation-requires
 read-representation-requires c κs = search needs
@@ -49,39 +36,33 @@ enum-told c = search needs
 number-requires : tie.Need-number-requires
 number-requires c κs = search needs
 
-returns-2 : tie.Need-returns-2
-returns-2 c =
-    let told = c .before in
-    let start = told .before .before .before .before .before .before .before in
-    let e = told .enum-told .given .1 in
+returns : tie.Need-returns
+returns c =
+    let e = c .before .enum-told .given .1 in
     ap Refused (c .number .ensures ∙ ap (λ (r : RepresentationRead). representationAnswer r .number) e)
-    ∙ sym (ap (step-by start) (sym (told .before .before .read-representation .ensures) ∙ e))
+    ∙ sym (ap (step-by (c .before .before .before .before .before .before)) (sym (c .before .before .before .read-representation .ensures) ∙ e))
 
 field-measured-requires : tie.Need-field-measured-requires
-field-measured-requires c κs = (c .before .before .before .before .before .before .before .before .pre .0, representation-good _ _ _ _ (read c) .places)
+field-measured-requires c κs = (c .before .before .before .before .before .before .pre, representation-good _ _ _ _ (read c) .places)
 
 step-of-requires : tie.Need-step-of-requires
 step-of-requires c κs = search needs
 
-returns-3 : tie.Need-returns-3
-returns-3 c =
+returns-2 : tie.Need-returns-2
+returns-2 c =
     let known = c .before .before in
     let next = known .before .r .given .0 .1 .0 in
-    c .step-of .ensures ∙ ap (λ (n : Measured). stepOf n next) (c .before .field-measured .ensures) ∙ sym (ap (step-by (known .before .before .before .before .before .before .before .before)) (read known))
+    c .step-of .ensures ∙ ap (λ (n : Measured). stepOf n next) (c .before .field-measured .ensures) ∙ sym (ap (step-by (known .before .before .before .before .before .before)) (read known))
 
 pub read-step-spec : {M : Type 1} → statement M
 read-step-spec =
     tie.close
     (tie.spec
-    shared-slice-read-if1
-    short-named-requires
-    named-step-requires
-    returns
     read-representation-requires
     enum-known-r
     enum-told
     number-requires
-    returns-2
+    returns
     field-measured-requires
     step-of-requires
-    returns-3)
+    returns-2)

@@ -35,7 +35,7 @@ next-turn c =
     surveying-turn _ _ _ _ (c .before .before .before .before .before .loop .inv) (c .before .before .before .before .loop-test .taken) (c .before .before .before .before .before .before .before .before .before .pre) _ _ M
 
 returns : tie.Need-returns Inv-loop μ-loop
-returns c = (survey-long _ _ (c .if1 .taken), tt)
+returns c = (survey-long _ _ (c .if1 .taken), λ e. omega arith)
 
 loop-holds : tie.Need-loop-holds Inv-loop μ-loop
 loop-holds c = surveying-starts _ _ (c .if1 .left)
@@ -75,10 +75,10 @@ enum-known-number c = search needs
 returns-3 : tie.Need-returns-3 Inv-loop μ-loop
 returns-3 c =
     let e = step-refused _ _ _ _ (sym (c .before .before .before .next-step .ensures) ∙ c .before .number .given .1) in
-    (surveying-refused _ _ _ _ (c .before .before .before .before .before .loop .inv) (c .before .before .before .before .loop-test .taken) _ e, tt)
+    (surveying-refused _ _ _ _ (c .before .before .before .before .before .loop .inv) (c .before .before .before .before .loop-test .taken) _ e, λ e. omega arith)
 
 returns-4 : tie.Need-returns-4 Inv-loop μ-loop
-returns-4 c = surveying-ends _ _ _ _ (c .before .loop .inv) (c .loop-test .left)
+returns-4 c = let z = surveying-ends _ _ _ _ (c .before .loop .inv) (c .loop-test .left) in (z .0, λ e. z .1)
 
 pub survey-block-spec : {M : Type 1} → statement M
 survey-block-spec =

@@ -1,0 +1,39 @@
+-- `short_index` gives what `shortIndexAt` says: one equation of it for each way through the function.
+use mathlib.Core.Path.{refl, sym, ap, _∙_}
+use Prim.Native.Nat.{ℕ, _+_}
+use native.Mathlib.Omega.{arith}
+use Rattle.blocks.specs.declared.short.ShortIndex.the-variants.{Found}
+use Rattle.blocks.proofs.ShortEquations.{index-zero, index-ones, index-short}
+use borrow.Author.Needs.{needs}
+use Rattle.blocks.proofs.short.short_index.Statement.{statement}
+use Rattle.blocks.proofs.short.short_index.Tie as tie
+
+shared-slice-read-wide : tie.Need-shared-slice-read-wide
+shared-slice-read-wide c = search needs
+
+sub-wide : tie.Need-sub-wide
+sub-wide c = search needs
+
+wide-requires : tie.Need-wide-requires
+wide-requires c κs = search needs
+
+returns : tie.Need-returns
+returns c = sym (index-zero _ _ _ refl (omega (arith, c .if1 .taken, c .before .wide .ensures .0)))
+
+returns-2 : tie.Need-returns-2
+returns-2 c = sym (index-ones _ _ _ refl (omega (arith, c .if2 .taken, c .before .before .wide .ensures .0)))
+
+add-t9 : tie.Need-add-t9
+add-t9 c = search needs
+
+returns-3 : tie.Need-returns-3
+returns-3 c =
+    let e = c .before .before .wide .ensures .0 in
+    let small = c .before .before .before .shared-slice-known2 .given (c .before .before .before .before .before .args .at) in
+    ap (λ (v : ℕ). Found (record { value = v }) (c .before .before .before .before .before .args .at + 1)) e
+    ∙ sym (index-short _ _ _ refl (omega (arith, c .before .before .before .before .before .pre .1, e, c .before .if1 .left)) (omega (arith, e, small, c .if2 .left)))
+
+pub short-index-spec : {M : Type 1} → statement M
+short-index-spec =
+    tie.close
+    (tie.spec shared-slice-read-wide sub-wide wide-requires returns returns-2 add-t9 returns-3)

@@ -1,0 +1,51 @@
+-- `text::short_string` gives what `shortStringAt` says: one equation of it for each way through the function.
+use mathlib.Core.Path.{sym}
+use Rattle.wire.proofs.ShortStrings.{short-string-none, short-string-long, short-string-cut, short-string-found}
+use borrow.Author.Needs.{needs}
+use Rattle.wire.proofs.text.short_string.Statement.{statement}
+use Rattle.wire.proofs.text.short_string.Tie as tie
+
+returns : tie.Need-returns
+returns c = sym (short-string-none _ _ (c .if1 .taken))
+
+shared-slice-read-wide : tie.Need-shared-slice-read-wide
+shared-slice-read-wide c = search needs
+
+wide-requires : tie.Need-wide-requires
+wide-requires c κs = search needs
+
+returns-2 : tie.Need-returns-2
+returns-2 c = sym (short-string-long _ _ (c .before .before .before .if1 .left) _ (c .before .wide .ensures) (c .if2 .taken))
+
+cast-size : tie.Need-cast-size
+cast-size c = search needs
+
+add-start : tie.Need-add-start
+add-start c = search needs
+
+sub-if3 : tie.Need-sub-if3
+sub-if3 c = search needs
+
+returns-3 : tie.Need-returns-3
+returns-3 c = sym (short-string-cut _ _ (c .before .before .before .before .if1 .left) _ (c .before .before .wide .ensures) (c .before .if2 .left) (c .if3 .taken))
+
+add-next : tie.Need-add-next
+add-next c = search needs
+
+returns-4 : tie.Need-returns-4
+returns-4 c = sym (short-string-found _ _ (c .before .before .before .before .if1 .left) _ (c .before .before .wide .ensures) (c .before .if2 .left) (c .if3 .left))
+
+pub short-string-spec : {M : Type 1} → statement M
+short-string-spec =
+    tie.close
+    (tie.spec
+    returns
+    shared-slice-read-wide
+    wide-requires
+    returns-2
+    cast-size
+    add-start
+    sub-if3
+    returns-3
+    add-next
+    returns-4)
