@@ -15,7 +15,7 @@ use Rattle.integers.proofs.Lengths.{first-byte}
 use Rattle.wire.specs.Text.{stringWire, stringBytes}
 use Rattle.wire.specs.Name.{nameOf, nameWire}
 use Rattle.wire.proofs.TextBack.{string-back, name-back, name-first}
-use Rattle.blocks.specs.Representation.{Representation, indexed, literal, Fine, AllFine, representationWire, blockWire}
+use Rattle.blocks.specs.Representation.{Representation, indexed, literal, FineRepresentation, AllFine, representationWire, blockWire}
 use Rattle.blocks.specs.Reading.{flagOf, representationOf, readRepresentation, block, blockFrom, readBlock}
 use Rattle.blocks.specs.declared.read.RepresentationPlace.{RepresentationPlace}
 use Rattle.blocks.specs.declared.read.RepresentationPlace.the-variants.{Indexed, Literal}
@@ -32,7 +32,7 @@ flag-back flag b h k l =
     (λ m. flag-high b m ∙ (let e : 1 ≡ flag = omega arith in e))
 
 -- where the bytes of a representation stand, a place with that representation is read
-pub representation-back : (s : List ℕ) (at : ℕ) (r : Representation) → Fine r → Has s at (representationWire r)
+pub representation-back : (s : List ℕ) (at : ℕ) (r : Representation) → FineRepresentation r → Has s at (representationWire r)
     → (p : RepresentationPlace) × (readRepresentation s at ≡ Found p (at + length (representationWire r))) × (representationOf s p ≡ r)
 representation-back s at (indexed i) h p =
     let q : Has s at (intWire 7 128 i) = rw (indexed-wire i) at p in

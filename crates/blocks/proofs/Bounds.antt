@@ -14,7 +14,7 @@ use Rattle.integers.proofs.Bounds.{int-good}
 use Rattle.wire.specs.Text.{readString}
 use Rattle.wire.specs.Name.{FineName, nameOf, readName, GoodName}
 use Rattle.wire.proofs.TextBounds.{string-good, string-size, string-bytes-kept, name-good, name-of-kept}
-use Rattle.blocks.specs.Representation.{literal, Fine}
+use Rattle.blocks.specs.Representation.{literal, FineRepresentation}
 use Rattle.blocks.specs.Reading.{flagOf, representationOf, readIndexed, readLiteral, readRepresentation, InBytes}
 use Rattle.integers.specs.declared.integer.IntRead.{IntRead}
 use Rattle.integers.specs.declared.integer.IntRead.the-variants.{Value, Refused as IntRefused}
@@ -53,7 +53,7 @@ module _ (s : List ℕ) where
   name-fine (Index i) g = g
   name-fine (Text p) g = omega (arith, string-size s p (g .0), g .1)
 
-  pub representation-fine : (p : RepresentationPlace) → InBytes s p → Fine (representationOf s p)
+  pub representation-fine : (p : RepresentationPlace) → InBytes s p → FineRepresentation (representationOf s p)
   representation-fine (Indexed i) g = g
   representation-fine (Literal flag name value) g =
       (g .0, name-fine name (g .1), omega (arith, string-size s value (g .2), g .3))
@@ -67,7 +67,7 @@ pub record GoodRepresentation (s : List ℕ) (at : ℕ) (p : RepresentationPlace
   pub past : at < next
   pub inside : next ≤ length s
   pub places : InBytes s p
-  pub fine : Fine (representationOf s p)
+  pub fine : FineRepresentation (representationOf s p)
 
 abbrev GoodRead : List ℕ → ℕ → RepresentationRead → Type 0
 GoodRead s at (Found p next) = GoodRepresentation s at p next

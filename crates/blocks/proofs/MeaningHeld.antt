@@ -26,8 +26,8 @@ use Rattle.memory.proofs.Order.{split, either, not-both, pick-both, pick-true, 
 use Rattle.integers.specs.Integer.{largest}
 use Rattle.wire.specs.Name.{indexed as by-index, literal as by-bytes}
 use Rattle.statics.specs.Table.{Entry, entryAt}
-use Rattle.fields.specs.Form.{Field, Fine as FineField, AllFine as AllFineFields}
-use Rattle.blocks.specs.Representation.{Representation, indexed, literal, Fine, AllFine}
+use Rattle.fields.specs.Form.{Field, FineField, AllFine as AllFineFields}
+use Rattle.blocks.specs.Representation.{Representation, indexed, literal, FineRepresentation, AllFine}
 use Rattle.blocks.specs.Meaning.{
   Slot,
   vacant,
@@ -178,7 +178,7 @@ module _ (lookup : ℕ → Slot) where
       (after-waits (fieldMeaning lookup r) (blockMeaning lookup rs) i (sym (meaning-cons lookup r rs) ∙ e))
 
   -- and it is an index of the wire
-  field-low : (r : Representation) → Fine r → (i : ℕ) → fieldMeaning lookup r ≡ FieldMeaning.waits i → i ≤ largest
+  field-low : (r : Representation) → FineRepresentation r → (i : ℕ) → fieldMeaning lookup r ≡ FieldMeaning.waits i → i ≤ largest
   unfolding fieldMeaning
   field-low (indexed j) h i e = omega (arith, slot-waits j (lookup j) _ i e .0, h .1)
   field-low (literal flag (by-index j) value) h i e = omega (arith, slot-waits j (lookup j) _ i e .0, h .1 .1)
@@ -209,7 +209,7 @@ module _ (lookup : ℕ → Slot) where
         let h = short i x d in
         subst FineField z (k x (h .0) (h .1))
 
-    field-fine : (r : Representation) → Fine r → (f : Field) → fieldMeaning lookup r ≡ field f → FineField f
+    field-fine : (r : Representation) → FineRepresentation r → (f : Field) → fieldMeaning lookup r ≡ field f → FineField f
     unfolding fieldMeaning
     field-fine (indexed i) h f e =
         slot-fine i (lookup i) refl _ (λ x a b. record { flag-bit = omega arith; name-short = a; value-short = b }) f e

@@ -6,7 +6,7 @@ use lib.Dec.{ltb, leb}
 use Rattle.memory.specs.Choice.{pick, need}
 use Rattle.integers.specs.Answers.{Answer, done, refusal, truncated, not-allowed, too-long}
 use Rattle.integers.specs.Integer.{readInt, onInt, largest}
-use Rattle.wire.specs.Text.{readString, onString, stringBytes, valueLimit, InText, stringLength}
+use Rattle.wire.specs.Text.{readString, onString, stringBytes, valueLimit, InString, stringLength}
 use Rattle.wire.specs.Name.{readName, onName, nameOf, GoodName}
 use Rattle.blocks.specs.Representation.{Representation, indexed, literal}
 use Rattle.blocks.specs.declared.read.RepresentationPlace.{RepresentationPlace}
@@ -56,7 +56,7 @@ representationOf s (Literal flag name value) = literal flag (nameOf s name) (str
 -- the representation's name and value lie in s, so that they can be copied from it
 abbrev pub InBytes : List ℕ → RepresentationPlace → Type 0
 InBytes s (Indexed i) = (0 < i .value) × (i .value ≤ largest)
-InBytes s (Literal flag name value) = (flag < 2) × GoodName s name × InText s value × (stringLength s value ≤ valueLimit)
+InBytes s (Literal flag name value) = (flag < 2) × GoodName s name × InString s value × (stringLength s value ≤ valueLimit)
 
 -- a whole block, or its first refusal
 pub data BlockRead : Type 0 where

@@ -13,13 +13,13 @@ pub data Representation : Type 0 where
   literal : ℕ → Name → List ℕ → Representation
 
 -- what can be said on the wire
-abbrev pub Fine : Representation → Type 0
-Fine (indexed i) = (0 < i) × (i ≤ largest)
-Fine (literal flag name value) = (flag < 2) × FineName name × (length value ≤ 2047)
+abbrev pub FineRepresentation : Representation → Type 0
+FineRepresentation (indexed i) = (0 < i) × (i ≤ largest)
+FineRepresentation (literal flag name value) = (flag < 2) × FineName name × (length value ≤ 2047)
 
 abbrev pub AllFine : List Representation → Type 0
 AllFine [] = Unit {0}
-AllFine (r ∷ rs) = Fine r × AllFine rs
+AllFine (r ∷ rs) = FineRepresentation r × AllFine rs
 
 -- "indexed is bit 1 and an index (7-bit prefix ..). Literal is bit 0, N, name index (6-bit prefix; 0 means a name string follows), value string."
 unfoldable pub representationWire : Representation → List ℕ

@@ -4,7 +4,7 @@ ghost use Prim.Native.Nat.{ℕ, _+_, _≤_};
 ghost use lib.ListN.{length};
 ghost use Rattle.memory.specs.Bytes.{overlay};
 ghost use Rattle.wire.specs.Name.{Name};
-ghost use Rattle.blocks.specs.Representation.{Representation, Fine, representationWire};
+ghost use Rattle.blocks.specs.Representation.{Representation, FineRepresentation, representationWire};
 use integers::integer::WireInt;
 use integers::number::TableIndex;
 use wire::name::write_name_index;
@@ -16,7 +16,7 @@ const INDEXED: u32 = 128;
 
 // A field of the tables by its index.
 pub fn write_indexed(index: TableIndex, out: &mut [u8], at: usize) -> usize
-    requires { ⌜ Fine (Representation.indexed (index .value)) ⌝ }
+    requires { ⌜ FineRepresentation (Representation.indexed (index .value)) ⌝ }
     requires { ⌜ at + length (representationWire (Representation.indexed (index .value))) ≤ length (now out) ⌝ }
     ensures { λ r. ⌜ r ≡ at + length (representationWire (Representation.indexed (index .value))) ⌝ }
     ensures { λ _. ⌜ now (out .exit) ≡ overlay (now (out .entry)) at (representationWire (Representation.indexed (index .value))) ⌝ }
@@ -33,7 +33,7 @@ pub fn write_literal_index(
     out: &mut [u8],
     at: usize,
 ) -> usize
-    requires { ⌜ Fine (Representation.literal flag (Name.indexed (name .value)) (now value)) ⌝ }
+    requires { ⌜ FineRepresentation (Representation.literal flag (Name.indexed (name .value)) (now value)) ⌝ }
     requires { ⌜ at + length (representationWire (Representation.literal flag (Name.indexed (name .value)) (now value))) ≤ length (now out) ⌝ }
     ensures { λ r. ⌜ r ≡ at + length (representationWire (Representation.literal flag (Name.indexed (name .value)) (now (value .entry)))) ⌝ }
     ensures { λ _. ⌜ now (out .exit) ≡ overlay (now (out .entry)) at (representationWire (Representation.literal flag (Name.indexed (name .value)) (now (value .entry)))) ⌝ }
@@ -44,7 +44,7 @@ pub fn write_literal_index(
 
 // A literal with its name as bytes.
 pub fn write_literal_text(flag: u8, name: &[u8], value: &[u8], out: &mut [u8], at: usize) -> usize
-    requires { ⌜ Fine (Representation.literal flag (Name.literal (now name)) (now value)) ⌝ }
+    requires { ⌜ FineRepresentation (Representation.literal flag (Name.literal (now name)) (now value)) ⌝ }
     requires { ⌜ at + length (representationWire (Representation.literal flag (Name.literal (now name)) (now value))) ≤ length (now out) ⌝ }
     ensures { λ r. ⌜ r ≡ at + length (representationWire (Representation.literal flag (Name.literal (now (name .entry))) (now (value .entry)))) ⌝ }
     ensures { λ _. ⌜ now (out .exit) ≡ overlay (now (out .entry)) at (representationWire (Representation.literal flag (Name.literal (now (name .entry))) (now (value .entry)))) ⌝ }

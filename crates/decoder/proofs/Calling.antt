@@ -14,7 +14,7 @@ use Rattle.model.specs.Decoder.{closeParts}
 use Rattle.state.specs.Layout.{decoderLength, decoderRole, marksPlace}
 use Rattle.state.specs.Forms.{formsDecoder}
 use Rattle.table.specs.Changes.{started}
-use Rattle.changes.proofs.DecoderClaim.{decoder-claim}
+use Rattle.table_laws.proofs.DecoderClaim.{decoder-claim}
 use Rattle.decoder.specs.Calls.{startCall, endedCall}
 use Rattle.decoder.proofs.Standing.{Stands, Leaves, same, refuses, steps, changes, stays}
 

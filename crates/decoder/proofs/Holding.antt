@@ -18,8 +18,8 @@ use Rattle.state.specs.Layout.{statusAt}
 use Rattle.state.specs.Front.{marksOf}
 use Rattle.state.specs.DecoderState.{deleteAt, decoderOf}
 use Rattle.state.specs.Forms.{formsDecoder}
-use Rattle.hold.specs.Hold.{GoodDelete}
-use Rattle.changes.specs.DecoderChanges.{found, missing}
+use Rattle.parts.specs.Hold.{GoodDelete}
+use Rattle.table_laws.specs.DecoderChanges.{found, missing}
 use Rattle.reply.specs.Result.{Result, stepped}
 use Rattle.decoder.specs.Calls.{holdCall}
 use Rattle.decoder.proofs.Standing.{Stands, changes}

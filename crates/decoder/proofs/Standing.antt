@@ -15,8 +15,8 @@ use Rattle.state.specs.DecoderState.{decoderOf, overlayDecoder}
 use Rattle.state.specs.Forms.{formsDecoder}
 use Rattle.state_laws.proofs.DecoderForms.{forms-holds-decoder}
 use Rattle.state_laws.proofs.DecoderLaws.{decoder-laws}
-use Rattle.changes.specs.DecoderChanges.{DecoderChanges}
-use Rattle.changes.proofs.DecoderClaim.{decoder-claim}
+use Rattle.table_laws.specs.DecoderChanges.{DecoderChanges}
+use Rattle.table_laws.proofs.DecoderClaim.{decoder-claim}
 use Rattle.reply.specs.Result.{Result, refused, stepped}
 
 -- bytes that form a state

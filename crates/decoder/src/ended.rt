@@ -8,7 +8,7 @@ use integers::number::StreamNumber;
 use marks::mark::clear;
 use reply::Reply;
 use state::decoder::forms_decoder;
-use state::layout::PLAIN_MARKS;
+use state::layout::NONTRAILER_MARKS;
 use state::layout::TRAILER_MARKS;
 
 pub fn ended(m: &mut [u8], stream: u64) -> Reply
@@ -24,7 +24,7 @@ pub fn ended(m: &mut [u8], stream: u64) -> Reply
     let s = StreamNumber {
         value: stream as u16,
     };
-    clear(m, PLAIN_MARKS, s);
+    clear(m, NONTRAILER_MARKS, s);
     clear(m, TRAILER_MARKS, s);
     Reply::done(0, 0)
 }

@@ -2,19 +2,19 @@
 ghost use mathlib.Core.Path.{_≡_};
 ghost use Rattle.reply.specs.Reply.{answerOf};
 ghost use Rattle.decoder.specs.Calls.{holdCall};
-use hold::hold_count;
-use hold::hold_lowest;
 use integers::answer::NO_STATE;
 use integers::answer::NOT_ALLOWED;
 use integers::answer::NOT_UNDER_DELETION;
 use integers::answer::VACANT;
 use integers::number::TableIndex;
 use memory::number::u16_at;
+use parts::hold::hold_count;
+use parts::hold::hold_lowest;
 use reply::Reply;
-use search::find::Found;
-use search::find::find;
 use state::decoder::forms_decoder;
 use state::layout::row_place;
+use table_search::find::Found;
+use table_search::find::find;
 
 pub fn enquire(m: &[u8], index: u64) -> Reply
     ensures { λ r. ⌜ answerOf r ≡ holdCall (now (m .entry)) index .answer ⌝ }

@@ -18,13 +18,13 @@ use Rattle.state.specs.Layout.{countOf, indexAt, statusAt}
 use Rattle.state.specs.DecoderState.{decoderOf, overlayDecoder}
 use Rattle.state.specs.Forms.{formsDecoder}
 use Rattle.state_laws.proofs.DecoderLaws.{decoder-laws}
-use Rattle.search.specs.Search.{lowestRow}
-use Rattle.search.specs.declared.names.Sought.the-variants.{Row, Nothing}
+use Rattle.table_search.specs.Search.{lowestRow}
+use Rattle.table_search.specs.declared.names.Sought.the-variants.{Row, Nothing}
 use Rattle.table.specs.Changes.{removed}
 use Rattle.deletes.specs.Deletes.{dropped}
 use Rattle.sizes.specs.Sizes.{intSize}
 use Rattle.sizes.proofs.Lengths.{acknowledge-size}
-use Rattle.changes.specs.DecoderChanges.{DecoderStands, heldAt}
+use Rattle.table_laws.specs.DecoderChanges.{DecoderStands, heldAt}
 use Rattle.reply.specs.Result.{Result, refused, stepped}
 use Rattle.decoder.specs.Calls.{collectCall}
 use Rattle.decoder_collect.specs.Ready.{readyAt}

@@ -18,14 +18,14 @@ use Rattle.state.specs.Rows.{Row as TableRow, rowIndex, rowsOf}
 use Rattle.state.specs.Front.{marksOf}
 use Rattle.state.specs.DecoderState.{deleteAt, heldOfRow, decoderOf}
 use Rattle.state_laws.proofs.DecoderLaws.{decoder-laws}
-use Rattle.hold.specs.Hold.{GoodDelete}
-use Rattle.search.specs.Search.{lowestRow}
-use Rattle.search.specs.declared.names.Sought.the-variants.{Row, Nothing}
-use Rattle.search.proofs.Finding.{find-at}
-use Rattle.search.proofs.Modelled.{search-model, search-model-none}
-use Rattle.search.proofs.Walking.{row-within}
-use Rattle.changes.specs.DecoderChanges.{DecoderStands, found, heldAt, DecoderChanges}
-use Rattle.changes.proofs.DecoderClaim.{decoder-claim}
+use Rattle.parts.specs.Hold.{GoodDelete}
+use Rattle.table_search.specs.Search.{lowestRow}
+use Rattle.table_search.specs.declared.names.Sought.the-variants.{Row, Nothing}
+use Rattle.table_search.proofs.Finding.{find-at}
+use Rattle.table_search.proofs.Modelled.{search-model, search-model-none}
+use Rattle.table_search.proofs.Walking.{row-within}
+use Rattle.table_laws.specs.DecoderChanges.{DecoderStands, found, heldAt, DecoderChanges}
+use Rattle.table_laws.proofs.DecoderClaim.{decoder-claim}
 use Rattle.decoder_collect.specs.Ready.{readyAt}
 
 -- entries are made from rows, one from each

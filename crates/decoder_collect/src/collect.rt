@@ -5,26 +5,26 @@ ghost use Prim.Native.Nat.{ℕ, _≤_, _<_};
 ghost use lib.ListN.{length};
 ghost use Rattle.state.specs.Layout.{countOf};
 ghost use Rattle.state.specs.Forms.{formsDecoder};
-ghost use Rattle.search.specs.Search.{lowestRow};
+ghost use Rattle.table_search.specs.Search.{lowestRow};
 ghost use Rattle.reply.specs.Reply.{answerOf};
 ghost use Rattle.decoder.specs.Calls.{collectCall};
 ghost use Rattle.decoder_collect.specs.Ready.{readyAt};
 use deletes::kept::drop_delete;
-use hold::NO_STREAM;
-use hold::hold_lowest;
 use instructions::write::write_acknowledgement;
 use integers::answer::NO_ROOM;
 use integers::answer::NO_STATE;
 use integers::number::TableIndex;
 use memory::number::u16_at;
 use memory::number::u32_at;
+use parts::hold::NO_STREAM;
+use parts::hold::hold_lowest;
 use reply::Reply;
-use search::names::Sought;
 use sizes::acknowledge_size;
 use state::decoder::forms_decoder;
 use state::layout::COUNT;
 use state::layout::row_place;
 use table::remove::remove;
+use table_search::names::Sought;
 
 // Is the entry in row `i` under deletion, and every part that its delete names finished?
 fn is_ready(m: &[u8], i: usize) -> bool

@@ -4,15 +4,15 @@ ghost use Prim.Native.Nat.{ℕ, _+_, _-_, _<_, _≤_};
 ghost use lib.ListN.{length, getD};
 ghost use Rattle.memory.specs.Bytes.{overlay};
 ghost use Rattle.statics.specs.Table.{staticText};
-ghost use Rattle.wire.specs.Text.{InText, stringLength, stringBytes};
+ghost use Rattle.wire.specs.Text.{InString, stringLength, stringBytes};
 ghost use Rattle.fields.specs.Form.{textForm, fieldForm};
 ghost use Rattle.blocks.specs.Representation.{Representation};
 ghost use Rattle.blocks.specs.Reading.{InBytes, readRepresentation};
 ghost use Rattle.blocks.specs.Short.{shortIndexAt, shortLiteralAt};
 ghost use Rattle.state.specs.Layout.{countOf};
 ghost use Rattle.state.specs.Rows.{nameAt, valueAt};
-ghost use Rattle.search.specs.Search.{Ordered};
-ghost use Rattle.decoder_survey.specs.Measure.{Stands, fieldOf, fieldAt, namedAt, literalAt, IsField, fieldBytes, ReadsWell, meaningOf, IsList, listBytes};
+ghost use Rattle.table_search.specs.Search.{Ordered};
+ghost use Rattle.decoder_survey.specs.Measure.{Stands, fieldMeant, fieldAt, namedAt, literalAt, IsField, fieldBytes, ReadsWell, meaningOf, IsList, listBytes};
 ghost use Rattle.decoder_survey.specs.Passes.{rowField, shortForm, meaningFrom, Unwritten};
 ghost use Rattle.decoder_fields.specs.Indexes.{indexIn, IsLiteral, rowIndex};
 use blocks::read::INDEXED;
@@ -34,11 +34,11 @@ use fields::write::write_length;
 use fields::write::write_text;
 use integers::number::TableIndex;
 use memory::copy::copy;
-use search::find::Found;
-use search::place::name_at;
-use search::place::value_at;
 use statics::table::LAST;
 use statics::table::static_text;
+use table_search::find::Found;
+use table_search::place::name_at;
+use table_search::place::value_at;
 use wire::name::NamePlace;
 use wire::text::StringPlace;
 
@@ -50,7 +50,7 @@ pub enum IndexedRead {
 
 // A string of `s` with its length before it.
 fn write_string_text(s: &[u8], p: StringPlace, out: &mut [u8], at: usize) -> usize
-    requires { ⌜ InText (now s) p × (stringLength (now s) p ≤ 2047) ⌝ }
+    requires { ⌜ InString (now s) p × (stringLength (now s) p ≤ 2047) ⌝ }
     requires { ⌜ at + length (textForm (stringBytes (now s) p)) ≤ length (now out) ⌝ }
     ensures { λ r. ⌜ r ≡ at + length (textForm (stringBytes (now (s .entry)) p)) ⌝ }
     ensures { λ _. ⌜ now (out .exit) ≡ overlay (now (out .entry)) at (textForm (stringBytes (now (s .entry)) p)) ⌝ }
@@ -68,10 +68,10 @@ fn write_indexed<'a>(
     at: usize,
 ) -> usize
     requires { ⌜ (now text ≡ staticText) × Stands (now m) × (0 < index .value) ⌝ }
-    requires { ⌜ IsField (fieldOf (now m) (Representation.indexed (index .value))) ⌝ }
-    requires { ⌜ at + length (fieldBytes (fieldOf (now m) (Representation.indexed (index .value)))) ≤ length (now out) ⌝ }
-    ensures { λ r. ⌜ r ≡ at + length (fieldBytes (fieldOf (now (m .entry)) (Representation.indexed (index .value)))) ⌝ }
-    ensures { λ _. ⌜ now (out .exit) ≡ overlay (now (out .entry)) at (fieldBytes (fieldOf (now (m .entry)) (Representation.indexed (index .value)))) ⌝ }
+    requires { ⌜ IsField (fieldMeant (now m) (Representation.indexed (index .value))) ⌝ }
+    requires { ⌜ at + length (fieldBytes (fieldMeant (now m) (Representation.indexed (index .value)))) ≤ length (now out) ⌝ }
+    ensures { λ r. ⌜ r ≡ at + length (fieldBytes (fieldMeant (now (m .entry)) (Representation.indexed (index .value)))) ⌝ }
+    ensures { λ _. ⌜ now (out .exit) ≡ overlay (now (out .entry)) at (fieldBytes (fieldMeant (now (m .entry)) (Representation.indexed (index .value)))) ⌝ }
 {
     let place = place_of(m, index);
     let name = name_at(text, m, place);
@@ -238,10 +238,10 @@ fn write_row(m: &[u8], i: usize, out: &mut [u8], to: usize) -> usize
 // A field of the header table by its index. A row is found, since a field is meant.
 fn write_dynamic(m: &[u8], index: TableIndex, out: &mut [u8], to: usize) -> usize
     requires { ⌜ Stands (now m) × (61 < index .value) ⌝ }
-    requires { ⌜ IsField (fieldOf (now m) (Representation.indexed (index .value))) ⌝ }
-    requires { ⌜ to + length (fieldBytes (fieldOf (now m) (Representation.indexed (index .value)))) ≤ length (now out) ⌝ }
-    ensures { λ r. ⌜ r ≡ to + length (fieldBytes (fieldOf (now (m .entry)) (Representation.indexed (index .value)))) ⌝ }
-    ensures { λ _. ⌜ now (out .exit) ≡ overlay (now (out .entry)) to (fieldBytes (fieldOf (now (m .entry)) (Representation.indexed (index .value)))) ⌝ }
+    requires { ⌜ IsField (fieldMeant (now m) (Representation.indexed (index .value))) ⌝ }
+    requires { ⌜ to + length (fieldBytes (fieldMeant (now m) (Representation.indexed (index .value)))) ≤ length (now out) ⌝ }
+    ensures { λ r. ⌜ r ≡ to + length (fieldBytes (fieldMeant (now (m .entry)) (Representation.indexed (index .value)))) ⌝ }
+    ensures { λ _. ⌜ now (out .exit) ≡ overlay (now (out .entry)) to (fieldBytes (fieldMeant (now (m .entry)) (Representation.indexed (index .value)))) ⌝ }
 {
     let f = row_of(m, index);
     let Found::At(i) = f else {

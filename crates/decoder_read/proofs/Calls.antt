@@ -58,10 +58,10 @@ module _ (m s : List ℕ) where
       unfolding readInstruction nameBytes
       read-by-string i name value e text d = read-found (Insert i (Text text) value) (e ∙ ap (λ (n : NamePlace). Insert i n value) d)
 
-      pub read-delete : (i : TableIndex) (plain later : ListPlace) → p ≡ Delete i plain later
-          → readCall m s ≡ keptDelete m (record { index = i .value; plain = listOf s plain; trailer = listOf s later }) taken
+      pub read-delete : (i : TableIndex) (nontrailer later : ListPlace) → p ≡ Delete i nontrailer later
+          → readCall m s ≡ keptDelete m (record { index = i .value; nontrailer = listOf s nontrailer; trailer = listOf s later }) taken
       unfolding readInstruction
-      read-delete i plain later e = read-found (Delete i plain later) e
+      read-delete i nontrailer later e = read-found (Delete i nontrailer later) e
 
       -- the reader finds no acknowledgement
       pub read-acknowledgement : (i : TableIndex) → p ≡ Acknowledge i → Leaves (readCall m s) (refusal not-allowed) m

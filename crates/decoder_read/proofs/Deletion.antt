@@ -16,7 +16,7 @@ use Rattle.model.specs.Parts.{Delete}
 use Rattle.model.specs.Decoder.{Held, isSome, deleteEntry}
 use Rattle.state.specs.Layout.{statusAt}
 use Rattle.deletes.specs.Deletes.{appended}
-use Rattle.changes.specs.DecoderChanges.{found, missing}
+use Rattle.table_laws.specs.DecoderChanges.{found, missing}
 use Rattle.decoder.proofs.Standing.{Stands, Leaves, steps, changes, stays}
 use Rattle.decoder_read.specs.Steps.{keptDelete}
 
@@ -41,12 +41,12 @@ module _ (m : List ℕ) (st : Stands m) (d : Delete) (taken place : ℕ) where
         (need-true _ _ _ (ap (λ (o : Option Held). isSome o) (C .here (d .index) place e .1))
         ∙ need-false _ _ _ (ap (λ (o : Option Delete). not (isSome o)) (C .deleted (d .index) place _ e s .0)))
 
-    pub delete-kept : statusAt m place ≡ 0 → FineList (d .plain) → FineList (d .trailer)
+    pub delete-kept : statusAt m place ≡ 0 → FineList (d .nontrailer) → FineList (d .trailer)
         → Leaves (keptDelete m d taken) (done taken 0) (appended m place d)
     unfolding deleteEntry
-    delete-kept z plain trailer =
+    delete-kept z nontrailer trailer =
         let C = changes m st in
         steps m _ _ taken 0 _
         (need-true _ _ _ (ap (λ (o : Option Held). isSome o) (C .here (d .index) place e .1))
         ∙ need-true _ _ _ (ap (λ (o : Option Delete). not (isSome o)) (C .live (d .index) place e z)))
-        (C .keep d place e z plain trailer)
+        (C .keep d place e z nontrailer trailer)

@@ -18,11 +18,11 @@ use Rattle.model.specs.Outcome.{nothing, Outcome, refuse, finish}
 use Rattle.model.specs.Decoder.{Held, Decoder, heldIndex, heldSize, isSome, withEntries, insertNamed}
 use Rattle.state.specs.Layout.{limitOf, heldOf, countOf}
 use Rattle.state.specs.DecoderState.{decoderOf}
-use Rattle.search.specs.Search.{findFrom}
-use Rattle.search.specs.declared.find.Found.{Found}
-use Rattle.search.specs.declared.find.Found.the-variants.{At, Vacant}
+use Rattle.table_search.specs.Search.{findFrom}
+use Rattle.table_search.specs.declared.find.Found.{Found}
+use Rattle.table_search.specs.declared.find.Found.the-variants.{At, Vacant}
 use Rattle.table.specs.Changes.{Opening, inserted}
-use Rattle.changes.specs.DecoderChanges.{missing}
+use Rattle.table_laws.specs.DecoderChanges.{missing}
 use Rattle.decoder.proofs.Standing.{Stands, Leaves, steps, changes, low-limit, stays}
 use Rattle.decoder_read.specs.declared.read.Judged.{Judged}
 use Rattle.decoder_read.specs.declared.read.Judged.the-variants.{Room, Refused}

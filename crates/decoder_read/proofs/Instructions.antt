@@ -4,14 +4,14 @@ use mathlib.Core.Path.{_≡_, sym, subst, _∙_}
 use Prim.Native.Nat.{ℕ, _≤_}
 use mathlib.Core.List.{List}
 use Rattle.integers.specs.declared.number.TableIndex.{TableIndex}
-use Rattle.wire.specs.Text.{InText, stringLength}
+use Rattle.wire.specs.Text.{InString, stringLength}
 use Rattle.wire.specs.Name.{GoodName}
 use Rattle.wire.specs.StreamList.{InList}
 use Rattle.wire.specs.declared.text.StringPlace.{StringPlace}
 use Rattle.wire.specs.declared.name.NamePlace.{NamePlace}
 use Rattle.wire.specs.declared.name.NamePlace.the-variants.{Index, Text}
 use Rattle.wire.specs.declared.stream_list.ListPlace.{ListPlace}
-use Rattle.instructions.specs.Instruction.{FineIndex, Fine}
+use Rattle.instructions.specs.Instruction.{FineIndex, FineInstruction}
 use Rattle.instructions.specs.Reading.{readForDecoder, instructionOf, InBytes}
 use Rattle.instructions.specs.declared.read.InstructionPlace.{InstructionPlace}
 use Rattle.instructions.specs.declared.read.InstructionPlace.the-variants.{Insert, Delete}
@@ -24,27 +24,27 @@ module _ (s : List ℕ) (r : InstructionRead) (told : r ≡ readForDecoder s) (p
   pub taken-fits : taken ≤ 2322
   taken-fits = taken-few s p taken (sym told ∙ found)
 
-  good : (q : InstructionPlace) → p ≡ q → Fine (instructionOf s q) × InBytes s q
+  good : (q : InstructionPlace) → p ≡ q → FineInstruction (instructionOf s q) × InBytes s q
   good q e =
       let g = decoder-good s p taken (sym told ∙ found) in
-      subst (λ (t : InstructionPlace). Fine (instructionOf s t) × InBytes s t) e (g .fine, g .bytes)
+      subst (λ (t : InstructionPlace). FineInstruction (instructionOf s t) × InBytes s t) e (g .fine, g .bytes)
 
   module _ (i : TableIndex) (name : NamePlace) (value : StringPlace) (e : p ≡ Insert i name value) where
     pub insert-index : FineIndex (i .value)
     insert-index = good (Insert i name value) e .0 .0
 
-    pub insert-value : InText s value × (stringLength s value ≤ 2047)
+    pub insert-value : InString s value × (stringLength s value ≤ 2047)
     insert-value = let g = good (Insert i name value) e .1 in (g .1, g .2)
 
     pub insert-named : (named : TableIndex) → name ≡ Index named → 1 ≤ named .value
     insert-named named d = subst (GoodName s) d (good (Insert i name value) e .1 .0) .0
 
-    pub insert-text : (text : StringPlace) → name ≡ Text text → InText s text × (stringLength s text ≤ 255)
+    pub insert-text : (text : StringPlace) → name ≡ Text text → InString s text × (stringLength s text ≤ 255)
     insert-text text d = subst (GoodName s) d (good (Insert i name value) e .1 .0)
 
-  module _ (i : TableIndex) (plain later : ListPlace) (e : p ≡ Delete i plain later) where
+  module _ (i : TableIndex) (nontrailer later : ListPlace) (e : p ≡ Delete i nontrailer later) where
     pub delete-index : FineIndex (i .value)
-    delete-index = good (Delete i plain later) e .0 .0
+    delete-index = good (Delete i nontrailer later) e .0 .0
 
-    pub delete-lists : InList s plain × InList s later
-    delete-lists = good (Delete i plain later) e .1
+    pub delete-lists : InList s nontrailer × InList s later
+    delete-lists = good (Delete i nontrailer later) e .1

@@ -20,13 +20,13 @@ use Rattle.model.specs.Decoder.{Held, heldIndex, slotIn, lookup, slotName, name
 use Rattle.state.specs.Layout.{countOf, textPlace, offsetAt, nameLengthAt}
 use Rattle.state.specs.Rows.{nameAt}
 use Rattle.state.specs.DecoderState.{decoderOf, overlayDecoder}
-use Rattle.search.specs.Search.{findFrom}
-use Rattle.search.specs.Place.{placeFound, locate}
-use Rattle.search.specs.declared.find.Found.{Found}
-use Rattle.search.specs.declared.find.Found.the-variants.{At, Vacant}
-use Rattle.search.specs.declared.place.EntryPlace.{EntryPlace}
-use Rattle.search.specs.declared.place.EntryPlace.the-variants.{Static, Dynamic, Nowhere}
-use Rattle.changes.specs.DecoderChanges.{found}
+use Rattle.table_search.specs.Search.{findFrom}
+use Rattle.table_search.specs.Place.{placeFound, locate}
+use Rattle.table_search.specs.declared.find.Found.{Found}
+use Rattle.table_search.specs.declared.find.Found.the-variants.{At, Vacant}
+use Rattle.table_search.specs.declared.place.EntryPlace.{EntryPlace}
+use Rattle.table_search.specs.declared.place.EntryPlace.the-variants.{Static, Dynamic, Nowhere}
+use Rattle.table_laws.specs.DecoderChanges.{found}
 use Rattle.reply.specs.Result.{stepped}
 use Rattle.decoder.proofs.Standing.{Stands, Leaves, changes, stays}
 use Rattle.decoder_read.specs.Steps.{namedInsert, indexedInsert}

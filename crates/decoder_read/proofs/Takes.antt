@@ -200,7 +200,7 @@ module _ (s : List ℕ) where
   delete-by =
       on-index (InstructionBy 2322) Refused (λ m. tt) 5 (readIndex 6 s) (index-by 6 s)
       (λ i next a. on-list (InstructionBy 2322) Refused (λ m. tt) 95 (readList s next) (list-by s next 95 (omega arith))
-      (λ plain after b. on-list (InstructionBy 2322) Refused (λ m. tt) 185 (readList s after) (list-by s after 185 (omega arith))
+      (λ nontrailer after b. on-list (InstructionBy 2322) Refused (λ m. tt) 185 (readList s after) (list-by s after 185 (omega arith))
       (λ trailer taken l. record { told = omega arith })))
 
   decoder-by : Told (InstructionBy 2322) (readForDecoder s)

@@ -10,9 +10,9 @@ use Rattle.wire.specs.Name.{indexed}
 use Rattle.model.specs.Decoder.{lookup, nameBytes, insertNamed, deleteEntry}
 use Rattle.state.specs.Layout.{limitOf, heldOf, countOf}
 use Rattle.state.specs.DecoderState.{decoderOf, overlayDecoder}
-use Rattle.search.specs.Search.{findFrom}
-use Rattle.search.specs.declared.find.Found.{Found}
-use Rattle.search.specs.declared.find.Found.the-variants.{At, Vacant}
+use Rattle.table_search.specs.Search.{findFrom}
+use Rattle.table_search.specs.declared.find.Found.{Found}
+use Rattle.table_search.specs.declared.find.Found.the-variants.{At, Vacant}
 use Rattle.reply.specs.Result.{Result, stepped}
 use Rattle.decoder_read.specs.declared.read.Judged.{Judged}
 use Rattle.decoder_read.specs.declared.read.Judged.the-variants.{Room, Refused}

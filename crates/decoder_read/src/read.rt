@@ -2,14 +2,14 @@
 ghost use mathlib.Core.Path.{_≡_};
 ghost use mathlib.Core.Bool.{true};
 ghost use Prim.Native.Nat.{_≤_, _<_};
-ghost use Rattle.wire.specs.Text.{InText, stringLength, stringBytes};
+ghost use Rattle.wire.specs.Text.{InString, stringLength, stringBytes};
 ghost use Rattle.wire.specs.StreamList.{InList, listOf};
 ghost use Rattle.instructions.specs.Instruction.{FineIndex};
 ghost use Rattle.state.specs.Layout.{countOf};
 ghost use Rattle.state.specs.Rows.{nameAt};
 ghost use Rattle.state.specs.Forms.{formsDecoder};
 ghost use Rattle.statics.specs.Table.{staticName};
-ghost use Rattle.search.specs.Search.{findFrom};
+ghost use Rattle.table_search.specs.Search.{findFrom};
 ghost use Rattle.reply.specs.Reply.{answerOf};
 ghost use Rattle.decoder.specs.Calls.{readCall};
 ghost use Rattle.decoder_read.specs.Steps.{namedInsert, indexedInsert, keptDelete, judged, judgedNumber};
@@ -21,10 +21,6 @@ use integers::answer;
 use integers::number::TableIndex;
 use memory::number::u16_at;
 use reply::Reply;
-use search::find::Found;
-use search::find::find;
-use search::place::EntryPlace;
-use search::place::locate;
 use state::decoder::forms_decoder;
 use state::layout;
 use statics::table::static_name;
@@ -32,6 +28,10 @@ use statics::table::static_text;
 use table::insert::insert_like;
 use table::insert::insert_named;
 use table::insert::insert_strings;
+use table_search::find::Found;
+use table_search::find::find;
+use table_search::place::EntryPlace;
+use table_search::place::locate;
 use wire::name::NamePlace;
 use wire::stream_list::ListPlace;
 use wire::text::StringPlace;
@@ -81,7 +81,7 @@ fn insert_by_string(
     taken: u32,
 ) -> Reply
     requires { ⌜ FineIndex (index .value) × (formsDecoder (now m) ≡ true) ⌝ }
-    requires { ⌜ InText (now s) name × (stringLength (now s) name ≤ 255) × InText (now s) value × (stringLength (now s) value ≤ 2047) ⌝ }
+    requires { ⌜ InString (now s) name × (stringLength (now s) name ≤ 255) × InString (now s) value × (stringLength (now s) value ≤ 2047) ⌝ }
     ensures { λ r. ⌜ answerOf r ≡ namedInsert (now (m .entry)) (index .value)
         (stringBytes (now (s .entry)) name) (stringBytes (now (s .entry)) value) taken .answer ⌝ }
     ensures { λ _. ⌜ now (m .exit) ≡ namedInsert (now (m .entry)) (index .value)
@@ -105,7 +105,7 @@ fn insert_by_static(
     taken: u32,
 ) -> Reply
     requires { ⌜ FineIndex (index .value) × (formsDecoder (now m) ≡ true) × (1 ≤ named) × (named ≤ 61) ⌝ }
-    requires { ⌜ InText (now s) value × (stringLength (now s) value ≤ 2047) ⌝ }
+    requires { ⌜ InString (now s) value × (stringLength (now s) value ≤ 2047) ⌝ }
     ensures { λ r. ⌜ answerOf r ≡ namedInsert (now (m .entry)) (index .value) (staticName named) (stringBytes (now (s .entry)) value) taken .answer ⌝ }
     ensures { λ _. ⌜ now (m .exit) ≡ namedInsert (now (m .entry)) (index .value) (staticName named) (stringBytes (now (s .entry)) value) taken .memory ⌝ }
 {
@@ -131,7 +131,7 @@ fn insert_by_row(
 ) -> Reply
     requires { ⌜ FineIndex (index .value) × (formsDecoder (now m) ≡ true) ⌝ }
     requires { ⌜ findFrom (now m) (named .value) (countOf (now m)) 0 ≡ Found.At row ⌝ }
-    requires { ⌜ InText (now s) value × (stringLength (now s) value ≤ 2047) ⌝ }
+    requires { ⌜ InString (now s) value × (stringLength (now s) value ≤ 2047) ⌝ }
     ensures { λ r. ⌜ answerOf r ≡ namedInsert (now (m .entry)) (index .value)
         (nameAt (now (m .entry)) row) (stringBytes (now (s .entry)) value) taken .answer ⌝ }
     ensures { λ _. ⌜ now (m .exit) ≡ namedInsert (now (m .entry)) (index .value)
@@ -156,7 +156,7 @@ fn insert_by_index(
     taken: u32,
 ) -> Reply
     requires { ⌜ FineIndex (index .value) × (formsDecoder (now m) ≡ true) × (1 ≤ named .value) ⌝ }
-    requires { ⌜ InText (now s) value × (stringLength (now s) value ≤ 2047) ⌝ }
+    requires { ⌜ InString (now s) value × (stringLength (now s) value ≤ 2047) ⌝ }
     ensures { λ r. ⌜ answerOf r ≡ indexedInsert (now (m .entry)) (index .value) (named .value) (stringBytes (now (s .entry)) value) taken .answer ⌝ }
     ensures { λ _. ⌜ now (m .exit) ≡ indexedInsert (now (m .entry)) (index .value) (named .value) (stringBytes (now (s .entry)) value) taken .memory ⌝ }
 {
@@ -172,16 +172,16 @@ fn delete(
     m: &mut [u8],
     s: &[u8],
     index: TableIndex,
-    plain: ListPlace,
+    nontrailer: ListPlace,
     trailer: ListPlace,
     taken: u32,
 ) -> Reply
     requires { ⌜ FineIndex (index .value) × (formsDecoder (now m) ≡ true) ⌝ }
-    requires { ⌜ InList (now s) plain × InList (now s) trailer ⌝ }
+    requires { ⌜ InList (now s) nontrailer × InList (now s) trailer ⌝ }
     ensures { λ r. ⌜ answerOf r ≡ keptDelete (now (m .entry))
-        (record { index = index .value; plain = listOf (now (s .entry)) plain; trailer = listOf (now (s .entry)) trailer }) taken .answer ⌝ }
+        (record { index = index .value; nontrailer = listOf (now (s .entry)) nontrailer; trailer = listOf (now (s .entry)) trailer }) taken .answer ⌝ }
     ensures { λ _. ⌜ now (m .exit) ≡ keptDelete (now (m .entry))
-        (record { index = index .value; plain = listOf (now (s .entry)) plain; trailer = listOf (now (s .entry)) trailer }) taken .memory ⌝ }
+        (record { index = index .value; nontrailer = listOf (now (s .entry)) nontrailer; trailer = listOf (now (s .entry)) trailer }) taken .memory ⌝ }
 {
     let f = find(m, index);
     let Found::At(place) = f else {
@@ -190,7 +190,7 @@ fn delete(
     if u16_at(m, layout::row_place(place) + 10) != 0 {
         return Reply::refused(answer::UNDER_DELETION);
     }
-    append_delete(m, place, index, s, plain, trailer);
+    append_delete(m, place, index, s, nontrailer, trailer);
     Reply::done(taken, 0)
 }
 
@@ -210,11 +210,11 @@ pub fn read(m: &mut [u8], s: &[u8]) -> Reply
             NamePlace::Index(named) => insert_by_index(m, s, index, named, value, taken as u32),
             NamePlace::Text(text) => insert_by_string(m, s, index, text, value, taken as u32),
         },
-        InstructionPlace::Delete(index, plain, trailer) => delete(
+        InstructionPlace::Delete(index, nontrailer, trailer) => delete(
             m,
             s,
             index,
-            plain,
+            nontrailer,
             trailer,
             taken as u32,
         ),

@@ -22,16 +22,16 @@ use Rattle.model_laws.proofs.Tables.{nope}
 use Rattle.state.specs.Layout.{countOf, offsetAt, nameLengthAt, valueLengthAt}
 use Rattle.state.specs.DecoderState.{decoderOf}
 use Rattle.state_laws.proofs.DecoderLaws.{decoder-laws}
-use Rattle.search.specs.Search.{findFrom}
-use Rattle.search.specs.Place.{placeFound, locate, InPlace, placeName, placeValue}
-use Rattle.search.specs.declared.find.Found.{Found}
-use Rattle.search.specs.declared.find.Found.the-variants.{At, Vacant}
-use Rattle.search.specs.declared.place.EntryPlace.{EntryPlace}
-use Rattle.search.specs.declared.place.EntryPlace.the-variants.{Static, Dynamic, Nowhere}
-use Rattle.search.proofs.place.EntryPlace as entry-place
-use Rattle.search.proofs.Fields.{name-end, value-end}
-use Rattle.changes.specs.DecoderChanges.{DecoderChanges}
-use Rattle.changes.proofs.DecoderClaim.{decoder-claim}
+use Rattle.table_search.specs.Search.{findFrom}
+use Rattle.table_search.specs.Place.{placeFound, locate, InPlace, placeName, placeValue}
+use Rattle.table_search.specs.declared.find.Found.{Found}
+use Rattle.table_search.specs.declared.find.Found.the-variants.{At, Vacant}
+use Rattle.table_search.specs.declared.place.EntryPlace.{EntryPlace}
+use Rattle.table_search.specs.declared.place.EntryPlace.the-variants.{Static, Dynamic, Nowhere}
+use Rattle.table_search.proofs.place.EntryPlace as entry-place
+use Rattle.table_search.proofs.Fields.{name-end, value-end}
+use Rattle.table_laws.specs.DecoderChanges.{DecoderChanges}
+use Rattle.table_laws.proofs.DecoderClaim.{decoder-claim}
 use Rattle.decoder_survey.specs.declared.entry.EntryLengths.the-variants.{Of, Vacant as Nothing}
 use Rattle.decoder_survey.specs.Measure.{Stands}
 use Rattle.decoder_survey.specs.Passes.{rowLengths, lengthsIn}

@@ -21,12 +21,12 @@ use Rattle.blocks.specs.declared.read.RepresentationPlace.{RepresentationPlace}
 use Rattle.blocks.specs.declared.read.RepresentationPlace.the-variants.{Indexed, Literal}
 use Rattle.model.specs.Decoder.{lookup}
 use Rattle.state.specs.DecoderState.{decoderOf}
-use Rattle.search.specs.Place.{locate}
-use Rattle.search.specs.declared.place.EntryPlace.{EntryPlace}
-use Rattle.search.specs.declared.place.EntryPlace.the-variants.{Static, Dynamic, Nowhere}
+use Rattle.table_search.specs.Place.{locate}
+use Rattle.table_search.specs.declared.place.EntryPlace.{EntryPlace}
+use Rattle.table_search.specs.declared.place.EntryPlace.the-variants.{Static, Dynamic, Nowhere}
 use Rattle.decoder_survey.specs.declared.entry.EntryLengths.the-variants.{Vacant as Nothing}
 use Rattle.decoder_survey.specs.declared.measure.Measured.the-variants.{Bytes, Waits}
-use Rattle.decoder_survey.specs.Measure.{Stands, fieldOf, fieldAt, IsField, fieldBytes, fieldMeasured}
+use Rattle.decoder_survey.specs.Measure.{Stands, fieldMeant, fieldAt, IsField, fieldBytes, fieldMeasured}
 use Rattle.decoder_survey.specs.Passes.{lengthsIn}
 use Rattle.decoder_survey.proofs.Entries.{Here, entryOf, slotOf, Located, located, Sized, no-entry}
 
@@ -76,18 +76,18 @@ abbrev Names : List ℕ → ℕ → (Entry → Field) → FieldMeaning → Type 
 Names m i f F = F ≡ onSlot i (lookup (decoderOf m) i) f
 
 module _ (m : List ℕ) (i : ℕ) where
-  pub names-entry : Names m i (λ e. record { flag = 0; name = e .name; value = e .value }) (fieldOf m (indexed i))
-  unfolding fieldOf fieldMeaning
+  pub names-entry : Names m i (λ e. record { flag = 0; name = e .name; value = e .value }) (fieldMeant m (indexed i))
+  unfolding fieldMeant fieldMeaning
   names-entry = refl
 
   pub names-name : (flag : ℕ) (value : List ℕ)
-      → Names m i (λ e. record { flag = flag; name = e .name; value = value }) (fieldOf m (literal flag (by-index i) value))
-  unfolding fieldOf fieldMeaning
+      → Names m i (λ e. record { flag = flag; name = e .name; value = value }) (fieldMeant m (literal flag (by-index i) value))
+  unfolding fieldMeant fieldMeaning
   names-name flag value = refl
 
 pub means-literal : (m : List ℕ) (flag : ℕ) (name value : List ℕ)
-    → fieldOf m (literal flag (by-bytes name) value) ≡ field (record { flag = flag; name = name; value = value })
-unfolding fieldOf fieldMeaning
+    → fieldMeant m (literal flag (by-bytes name) value) ≡ field (record { flag = flag; name = name; value = value })
+unfolding fieldMeant fieldMeaning
 means-literal m flag name value = refl
 
 module _ (m : List ℕ) (i : ℕ) (f : Entry → Field) {F : FieldMeaning} (N : Names m i f F) where

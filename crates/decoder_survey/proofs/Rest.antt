@@ -13,7 +13,7 @@ use Rattle.blocks.proofs.Fuel.{prefixed, blockAt, read-at, at-end, at-refused, 
 use Rattle.blocks.proofs.MeaningLaws.{meaning-nil, meaning-cons}
 use Rattle.model.specs.Decoder.{lookup}
 use Rattle.state.specs.DecoderState.{decoderOf}
-use Rattle.decoder_survey.specs.Measure.{fieldOf, fieldAt, ReadsWell, representations, meaningOf}
+use Rattle.decoder_survey.specs.Measure.{fieldMeant, fieldAt, ReadsWell, representations, meaningOf}
 use Rattle.decoder_survey.specs.Passes.{ReadsOn, meaningFrom}
 
 -- ---- all of it
@@ -51,7 +51,7 @@ pub record Turn (m s : List ℕ) (at : ℕ) (p : RepresentationPlace) (next : �
 
 pub turn : (m s : List ℕ) (at : ℕ) → ReadsOn s at → at < length s → (p : RepresentationPlace) (next : ℕ) → readRepresentation s at ≡ Found p next
     → Turn m s at p next
-unfolding meaningFrom fieldOf
+unfolding meaningFrom fieldMeant
 turn m s at (rs, e) h p next d = go (blockAt s next) refl
   where
     more : blockAt s at ≡ prefixed (representationOf s p ∷ []) (blockAt s next)

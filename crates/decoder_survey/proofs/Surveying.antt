@@ -25,7 +25,7 @@ use Rattle.decoder_survey.specs.declared.measure.Measured.the-variants.{
 use Rattle.decoder_survey.specs.declared.measure.Step.the-variants.{Field as StepField, Waits as StepWaits, Refused as StepRefused}
 use Rattle.decoder_survey.specs.declared.measure.Survey.{Survey}
 use Rattle.decoder_survey.specs.declared.measure.Survey.the-variants.{Bytes, Waits, Refused}
-use Rattle.decoder_survey.specs.Measure.{Stands, fieldOf, fieldAt, fieldBytes, fieldMeasured, ReadsWell, meaningOf, blockMeasured}
+use Rattle.decoder_survey.specs.Measure.{Stands, fieldMeant, fieldAt, fieldBytes, fieldMeasured, ReadsWell, meaningOf, blockMeasured}
 use Rattle.decoder_survey.specs.Passes.{stepOf, stepAt, restAt, waitsUnless, surveyMeasured, surveyOf, blockSurvey, ToldSurvey}
 use Rattle.decoder_survey.proofs.Fields.{field-bound}
 
@@ -120,19 +120,19 @@ waits-field (field f) M index e = nope (cc)
 waits-field (FieldMeaning.waits i) M index e = ap surveyMeasured e
 
 module _ (m : List ℕ) (r : Representation) where
-  prefixed-field : (b : BlockRead) (n : ℕ) → fieldMeasured (fieldOf m r) ≡ MeasuredBytes n → surveyOf m (prefixed (r ∷ []) b) ≡ plus n (surveyOf m b)
-  unfolding fieldOf
+  prefixed-field : (b : BlockRead) (n : ℕ) → fieldMeasured (fieldMeant m r) ≡ MeasuredBytes n → surveyOf m (prefixed (r ∷ []) b) ≡ plus n (surveyOf m b)
+  unfolding fieldMeant
   prefixed-field (block rs) n e =
       ap (λ (M : BlockMeaning). surveyMeasured (blockMeasured M)) (meaning-cons (lookup (decoderOf m)) r rs)
-      ∙ plus-field (fieldOf m r) (blockMeaning (lookup (decoderOf m)) rs) n e
+      ∙ plus-field (fieldMeant m r) (blockMeaning (lookup (decoderOf m)) rs) n e
   prefixed-field (refused number) n e = refl
 
-  prefixed-waits : (b : BlockRead) (index : TableIndex) → fieldMeasured (fieldOf m r) ≡ MeasuredWaits index
+  prefixed-waits : (b : BlockRead) (index : TableIndex) → fieldMeasured (fieldMeant m r) ≡ MeasuredWaits index
       → surveyOf m (prefixed (r ∷ []) b) ≡ waitsUnless index b
-  unfolding fieldOf
+  unfolding fieldMeant
   prefixed-waits (block rs) index e =
       ap (λ (M : BlockMeaning). surveyMeasured (blockMeasured M)) (meaning-cons (lookup (decoderOf m)) r rs)
-      ∙ waits-field (fieldOf m r) (blockMeaning (lookup (decoderOf m)) rs) index e
+      ∙ waits-field (fieldMeant m r) (blockMeaning (lookup (decoderOf m)) rs) index e
   prefixed-waits (refused number) index e = refl
 
 -- ---- a block that waits

@@ -18,7 +18,7 @@ use Rattle.blocks.specs.declared.read.RepresentationPlace.{RepresentationPlace}
 use Rattle.blocks.specs.declared.read.RepresentationPlace.the-variants.{Literal}
 use Rattle.model.specs.Decoder.{lookup}
 use Rattle.state.specs.DecoderState.{decoderOf}
-use Rattle.changes.specs.DecoderChanges.{DecoderStands}
+use Rattle.table_laws.specs.DecoderChanges.{DecoderStands}
 use Rattle.decoder_survey.specs.declared.measure.Measured.{Measured}
 use Rattle.decoder_survey.specs.declared.measure.Measured.the-variants.{Bytes, Waits}
 
@@ -40,12 +40,12 @@ measuredAnswer (Waits index) = waitsFor index
 -- ---- one representation
 
 -- what it means against the table in memory
-unfoldable pub fieldOf : List ℕ → Representation → FieldMeaning
-fieldOf m r = fieldMeaning (lookup (decoderOf m)) r
+unfoldable pub fieldMeant : List ℕ → Representation → FieldMeaning
+fieldMeant m r = fieldMeaning (lookup (decoderOf m)) r
 
 -- of the representation at a place of s, and of a literal there whose name is an entry's
 abbrev pub fieldAt : List ℕ → List ℕ → RepresentationPlace → FieldMeaning
-fieldAt m s r = fieldOf m (representationOf s r)
+fieldAt m s r = fieldMeant m (representationOf s r)
 
 abbrev pub namedAt : List ℕ → List ℕ → ℕ → TableIndex → StringPlace → FieldMeaning
 namedAt m s flag index value = fieldAt m s (Literal flag (Index index) value)

@@ -5,22 +5,22 @@ ghost use Rattle.model.specs.Decoder.{lookup};
 ghost use Rattle.state.specs.Layout.{countOf};
 ghost use Rattle.state.specs.Rows.{nameAt, valueAt};
 ghost use Rattle.state.specs.DecoderState.{decoderOf};
-ghost use Rattle.search.specs.Search.{Ordered, findFrom};
-ghost use Rattle.search.specs.Place.{locate};
+ghost use Rattle.table_search.specs.Search.{Ordered, findFrom};
+ghost use Rattle.table_search.specs.Place.{locate};
 ghost use Rattle.decoder_survey.specs.Measure.{Stands};
 ghost use Rattle.decoder_survey.specs.Passes.{rowLengths, lengthsIn};
 use integers::number::TableIndex;
 use memory::number::u16_at;
 use memory::number::u32_at;
-use search::find::Found;
-use search::find::find;
-use search::place::EntryPlace;
 use state::layout::COUNT;
 use state::layout::FIRST_INDEX;
 use state::layout::TEXT;
 use state::layout::row_place;
 use statics::table::LAST;
 use statics::table::static_place;
+use table_search::find::Found;
+use table_search::find::find;
+use table_search::place::EntryPlace;
 
 // The lengths of an entry's name and value, or that no entry has the index.
 pub enum EntryLengths {

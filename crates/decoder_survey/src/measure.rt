@@ -4,7 +4,7 @@ ghost use Prim.Native.Nat.{ℕ, _<_};
 ghost use lib.ListN.{length, getD};
 ghost use Rattle.blocks.specs.Representation.{Representation};
 ghost use Rattle.blocks.specs.Reading.{InBytes};
-ghost use Rattle.decoder_survey.specs.Measure.{Stands, fieldOf, fieldAt, namedAt, fieldMeasured};
+ghost use Rattle.decoder_survey.specs.Measure.{Stands, fieldMeant, fieldAt, namedAt, fieldMeasured};
 ghost use Rattle.decoder_survey.specs.Passes.{stepOf, stepAt, waitsUnless, restAt, blockSurvey, ToldSurvey};
 use crate::entry::EntryLengths;
 use crate::entry::entry_lengths;
@@ -48,7 +48,7 @@ pub enum Survey {
 // An entry by its index.
 fn indexed_size(m: &[u8], index: TableIndex) -> Measured
     requires { ⌜ Stands (now m) × (0 < index .value) ⌝ }
-    ensures { λ r. ⌜ r ≡ fieldMeasured (fieldOf (now (m .entry)) (Representation.indexed (index .value))) ⌝ }
+    ensures { λ r. ⌜ r ≡ fieldMeasured (fieldMeant (now (m .entry)) (Representation.indexed (index .value))) ⌝ }
 {
     match entry_lengths(m, index) {
         EntryLengths::Of(name, value) => Measured::Bytes(field_size(name, value)),

@@ -12,7 +12,7 @@ use Rattle.memory.specs.Numbers.{numberBytes}
 use Rattle.memory.proofs.Order.{pick-true, pick-false}
 use Rattle.memory.proofs.Overlay.{length-overlay}
 use Rattle.state.specs.Layout.{rowPlace, statusAt}
-use Rattle.rows.specs.Rows.{statusSet}
+use Rattle.table_rows.specs.Rows.{statusSet}
 use Rattle.deletes.specs.Deletes.{renumbered}
 
 pub length-statusSet : (m : List ℕ) (place status : ℕ) → length (statusSet m place status) ≡ length m

@@ -12,7 +12,7 @@ use Rattle.wire.specs.StreamList.{StreamList}
 use Rattle.model.specs.Parts.{Delete}
 use Rattle.state.specs.Layout.{deletePlace, deleteCount}
 use Rattle.state.specs.DecoderState.{streamsBytes, listBytes, deleteBytes}
-use Rattle.rows.specs.Rows.{statusSet}
+use Rattle.table_rows.specs.Rows.{statusSet}
 use Rattle.deletes.specs.Deletes.{appended}
 
 -- ---- lengths
@@ -51,20 +51,20 @@ module _ (l : StreamList) (count : ℕ) (e : length (l .streams) ≡ count) wher
       (then-stored one two four (at + 2) (at + 4) (numberBytes 2 (length (l .streams))) _ (omega arith) g′
       (then-stored two three four (at + 4) (at + 4 + 2 * count) (streamsBytes (l .streams)) zs (omega arith) h k′))
 
-pub delete-stored : (d : Delete) → length (d .plain .streams) ≤ 16 → (m one two three : List ℕ) (at : ℕ)
-    → one ≡ overlay m at (numberBytes 4 (d .index)) → two ≡ overlay one (at + 4) (listBytes (d .plain))
+pub delete-stored : (d : Delete) → length (d .nontrailer .streams) ≤ 16 → (m one two three : List ℕ) (at : ℕ)
+    → one ≡ overlay m at (numberBytes 4 (d .index)) → two ≡ overlay one (at + 4) (listBytes (d .nontrailer))
     → three ≡ overlay two (at + 40) (listBytes (d .trailer)) → three ≡ overlay m at (deleteBytes d)
 unfolding deleteBytes
 delete-stored d h m one two three at f g k =
     let a = length-numberBytes 4 (d .index) in
-    let b = length-listBytes (d .plain) h in
+    let b = length-listBytes (d .nontrailer) h in
     then-stored m one three at (at + 4) (numberBytes 4 (d .index)) _ (omega arith) f
-    (then-stored one two three (at + 4) (at + 40) (listBytes (d .plain)) (listBytes (d .trailer)) (omega arith) g k)
+    (then-stored one two three (at + 4) (at + 40) (listBytes (d .nontrailer)) (listBytes (d .trailer)) (omega arith) g k)
 
 -- ---- a delete kept after the others
 
-pub append-stored : (m : List ℕ) (place : ℕ) (d : Delete) (n at : ℕ) → n ≡ deleteCount m → at ≡ deletePlace n → length (d .plain .streams) ≤ 16
-    → (one two three four five : List ℕ) → one ≡ overlay m at (numberBytes 4 (d .index)) → two ≡ overlay one (at + 4) (listBytes (d .plain))
+pub append-stored : (m : List ℕ) (place : ℕ) (d : Delete) (n at : ℕ) → n ≡ deleteCount m → at ≡ deletePlace n → length (d .nontrailer .streams) ≤ 16
+    → (one two three four five : List ℕ) → one ≡ overlay m at (numberBytes 4 (d .index)) → two ≡ overlay one (at + 4) (listBytes (d .nontrailer))
     → three ≡ overlay two (at + 40) (listBytes (d .trailer)) → four ≡ statusSet three place (n + 1) → five ≡ overlay four 8 (numberBytes 2 (n + 1))
     → five ≡ appended m place d
 unfolding appended

@@ -9,7 +9,7 @@ use Rattle.memory.specs.Numbers.{number, numberBytes}
 use Rattle.model.specs.Parts.{Part, nontrailer, trailer, Delete}
 use Rattle.state.specs.Layout.{deletePlace, referencePlace, countOf, deleteCount, statusAt}
 use Rattle.state.specs.DecoderState.{deleteBytes}
-use Rattle.rows.specs.Rows.{statusSet}
+use Rattle.table_rows.specs.Rows.{statusSet}
 
 -- ---- the decoder's deletes
 

@@ -12,12 +12,12 @@ use memory::copy::move_down;
 use memory::number::put_u16;
 use memory::number::put_u32;
 use memory::number::u16_at;
-use rows::put_zeros;
-use rows::set_status;
 use state::layout::COUNT;
 use state::layout::DELETES_COUNT;
 use state::layout::delete_place;
 use state::layout::row_place;
+use table_rows::put_zeros;
+use table_rows::set_status;
 use wire::stream_list::DeltaRead;
 use wire::stream_list::ListPlace;
 use wire::stream_list::read_delta;
@@ -63,18 +63,18 @@ pub fn append_delete(
     place: usize,
     index: TableIndex,
     s: &[u8],
-    plain: ListPlace,
+    nontrailer: ListPlace,
     trailer: ListPlace,
 )
     requires { ⌜ (place < 128) × (deleteCount (now m) < 256) × (35912 ≤ length (now m)) ⌝ }
-    requires { ⌜ (InList (now s) plain) × (InList (now s) trailer) ⌝ }
+    requires { ⌜ (InList (now s) nontrailer) × (InList (now s) trailer) ⌝ }
     ensures { λ _. ⌜ now (m .exit) ≡ appended (now (m .entry)) place
-        (record { index = index .value; plain = listOf (now (s .entry)) plain; trailer = listOf (now (s .entry)) trailer }) ⌝ }
+        (record { index = index .value; nontrailer = listOf (now (s .entry)) nontrailer; trailer = listOf (now (s .entry)) trailer }) ⌝ }
 {
     let n = u16_at(m, DELETES_COUNT);
     let at = delete_place(n as usize);
     put_u32(m, at, index.value);
-    put_list(m, at + 4, s, plain);
+    put_list(m, at + 4, s, nontrailer);
     put_list(m, at + 40, s, trailer);
     set_status(m, place, n + 1);
     put_u16(m, DELETES_COUNT, n + 1);

@@ -22,7 +22,7 @@ fn raise(m: &mut [u8], at: usize, stream: StreamNumber)
 }
 
 // A non-trailer block on this stream refers to the entry with this index.
-pub fn refer_plain(m: &mut [u8], index: TableIndex, stream: StreamNumber)
+pub fn refer_nontrailer(m: &mut [u8], index: TableIndex, stream: StreamNumber)
     requires { ⌜ (62 ≤ index .value) × (index .value ≤ 189) × (16960 ≤ length (now m)) × (stream .value < 4096) ⌝ }
     ensures { λ _. ⌜ now (m .exit) ≡ raised (now (m .entry)) (index .value) Part.nontrailer (stream .value) ⌝ }
 {

@@ -22,8 +22,8 @@ use Rattle.state.specs.Layout.{statusAt}
 use Rattle.state.specs.EncoderState.{sentOfRow, encoderOf, overlayEncoder}
 use Rattle.state.specs.Forms.{formsEncoder}
 use Rattle.table.specs.Changes.{removed}
-use Rattle.changes.specs.DecoderChanges.{found, missing}
-use Rattle.changes.specs.EncoderChanges.{sentAt}
+use Rattle.table_laws.specs.DecoderChanges.{found, missing}
+use Rattle.table_laws.specs.EncoderChanges.{sentAt}
 use Rattle.reply.specs.Result.{refused, stepped}
 use Rattle.encoder.specs.Calls.{acknowledged, acknowledgeCall}
 use Rattle.encoder.specs.Steps.{freed}

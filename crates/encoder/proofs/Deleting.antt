@@ -14,16 +14,16 @@ use Rattle.memory.specs.Numbers.{number}
 use Rattle.memory.proofs.Order.{need-true, need-false}
 use Rattle.integers.specs.Answers.{done, no-state, not-allowed, vacant, under-deletion, no-room}
 use Rattle.integers.specs.Integer.{largest}
-use Rattle.instructions.specs.Instruction.{Instruction, delete, Fine, instructionWire}
+use Rattle.instructions.specs.Instruction.{Instruction, delete, FineInstruction, instructionWire}
 use Rattle.model.specs.Table.{look}
 use Rattle.model.specs.Outcome.{Outcome, refuse, finish, instruction, outputBytes}
-use Rattle.model.specs.Encoder.{Sent, sentIndex, Encoder, withSent, emptyList, deleteAt, deleteOfSent, deleteFound, deleteSent}
+use Rattle.model.specs.Encoder.{Sent, sentIndex, Encoder, withSent, emptyList, markDeleted, deleteOfSent, deleteFound, deleteSent}
 use Rattle.state.specs.Layout.{referencePlace, statusAt}
-use Rattle.state.specs.EncoderState.{plainAt, trailerAt, sentOfRow, encoderOf, overlayEncoder}
+use Rattle.state.specs.EncoderState.{nontrailerAt, trailerAt, sentOfRow, encoderOf, overlayEncoder}
 use Rattle.state.specs.Forms.{formsEncoder}
-use Rattle.rows.specs.Rows.{statusSet}
-use Rattle.changes.specs.DecoderChanges.{found, missing}
-use Rattle.changes.specs.EncoderChanges.{sentAt}
+use Rattle.table_rows.specs.Rows.{statusSet}
+use Rattle.table_laws.specs.DecoderChanges.{found, missing}
+use Rattle.table_laws.specs.EncoderChanges.{sentAt}
 use Rattle.sizes.specs.Sizes.{deleteSize}
 use Rattle.sizes.proofs.Lengths.{delete-size}
 use Rattle.reply.specs.Result.{refused, stepped}
@@ -63,7 +63,7 @@ module _ (E : Encoder) (room : ℕ) where
 
       found-room : length (instructionWire (deleteOfSent e)) ≤ room
           → deleteFound E room (some e)
-          ≡ finish (withSent E (map (deleteAt (e .index)) (E .entries))) (length (instructionWire (deleteOfSent e))) 0 (instruction (deleteOfSent e))
+          ≡ finish (withSent E (map (markDeleted (e .index)) (E .entries))) (length (instructionWire (deleteOfSent e))) 0 (instruction (deleteOfSent e))
       unfolding deleteFound
       found-room h = need-true (not (e .deleted)) _ _ (ap not lives) ∙ need-true _ _ _ (le-leb _ _ h)
 
@@ -117,8 +117,8 @@ module _ (m : List ℕ) (small : Small m) (forms : formsEncoder m ≡ true) (x p
   abbrev said : Instruction
   said = delete x (emptyList p) (emptyList t)
 
-  plain-is : p ≡ plainAt m x
-  plain-is = hp ∙ ap (number 2 m) here
+  nontrailer-is : p ≡ nontrailerAt m x
+  nontrailer-is = hp ∙ ap (number 2 m) here
 
   trailer-is : t ≡ trailerAt m x
   trailer-is = ht ∙ ap (λ (h : ℕ). number 2 m (h + 38)) here
@@ -126,11 +126,11 @@ module _ (m : List ℕ) (small : Small m) (forms : formsEncoder m ≡ true) (x p
   pub said-length : length (instructionWire said) ≡ n
   said-length = delete-size x p t ∙ sym s
 
-  pub said-fine : Fine said
+  pub said-fine : FineInstruction said
   said-fine =
       let row = row-found m small forms x place f in (
         (row .low, omega (arith, row .high)),
-        (omega (arith, plain-is, row .plain), omega arith, tt),
+        (omega (arith, nontrailer-is, row .nontrailer), omega arith, tt),
         (omega (arith, trailer-is, row .trailer), omega arith, tt),
       )
 
@@ -145,8 +145,8 @@ module _ (m : List ℕ) (small : Small m) (forms : formsEncoder m ≡ true) (x p
   says : deleteOfSent (sentAt m place) ≡ said
   unfolding sentOfRow
   says =
-      ap (λ (y : ℕ). delete y (emptyList (plainAt m y)) (emptyList (trailerAt m y))) index-is
-      ∙ (λ k. delete x (emptyList (sym plain-is k)) (emptyList (sym trailer-is k)))
+      ap (λ (y : ℕ). delete y (emptyList (nontrailerAt m y)) (emptyList (trailerAt m y))) index-is
+      ∙ (λ k. delete x (emptyList (sym nontrailer-is k)) (emptyList (sym trailer-is k)))
 
   wire-length : length (instructionWire (deleteOfSent (sentAt m place))) ≡ n
   wire-length = ap (λ (d : Instruction). length (instructionWire d)) says ∙ said-length
@@ -162,7 +162,7 @@ module _ (m : List ℕ) (small : Small m) (forms : formsEncoder m ≡ true) (x p
         → foundDelete m place out ≡ record { answer = done n 0; memory = statusSet m place 1; output = overlay out 0 (instructionWire said) }
     unfolding stepped outputBytes
     found-done h =
-        let marked = ap (λ (y : ℕ). overlayEncoder (withSent (encoderOf m) (map (deleteAt y) (encoderOf m .entries))) m) index-is
+        let marked = ap (λ (y : ℕ). overlayEncoder (withSent (encoderOf m) (map (markDeleted y) (encoderOf m .entries))) m) index-is
         ∙ sym (changes m small forms .delete x place f) in
         ap (λ (o : Outcome Encoder). stepped overlayEncoder m out o)
         (found-room (encoderOf m) (length out) (sentAt m place) lives (omega (arith, wire-length)))

@@ -17,14 +17,14 @@ use Rattle.model.specs.Encoder.{sentIndex}
 use Rattle.model_laws.proofs.Marks.{and-both}
 use Rattle.model_laws.proofs.Tables.{look-index}
 use Rattle.state.specs.Layout.{encoderLength, encoderRole, limitOf, countOf, deleteCount, indexAt, statusAt}
-use Rattle.state.specs.EncoderState.{plainAt, trailerAt, sentOfRow, encoderOf, overlayEncoder}
+use Rattle.state.specs.EncoderState.{nontrailerAt, trailerAt, sentOfRow, encoderOf, overlayEncoder}
 use Rattle.state.specs.Forms.{headOk, referenceOk, formsEncoder}
 use Rattle.state_laws.proofs.RowsTest.{asked-each}
 use Rattle.state_laws.proofs.EncoderForms.{forms-holds-encoder}
 use Rattle.state_laws.proofs.EncoderLaws.{encoder-laws}
-use Rattle.changes.specs.DecoderChanges.{found}
-use Rattle.changes.specs.EncoderChanges.{EncoderChanges, sentAt}
-use Rattle.changes.proofs.EncoderClaim.{encoder-claim}
+use Rattle.table_laws.specs.DecoderChanges.{found}
+use Rattle.table_laws.specs.EncoderChanges.{EncoderChanges, sentAt}
+use Rattle.table_laws.proofs.EncoderClaim.{encoder-claim}
 use Rattle.reply.specs.Result.{refused, stepped}
 
 -- the row at a place, found by its index x
@@ -33,7 +33,7 @@ pub record RowFound (m : List ℕ) (x place : ℕ) : Type 0 where
   pub index : indexAt m place ≡ x
   pub low : 62 ≤ x
   pub high : x ≤ 189
-  pub plain : plainAt m x ≤ 4096
+  pub nontrailer : nontrailerAt m x ≤ 4096
   pub trailer : trailerAt m x ≤ 4096
   pub status : statusAt m place ≤ 1
   pub looked : look sentIndex x (encoderOf m .entries) ≡ some (sentAt m place)
@@ -62,14 +62,14 @@ module _ (m : List ℕ) (small : Small m) (forms : formsEncoder m ≡ true) wher
       let here = changes .here x place f in
       let at : indexAt m place ≡ x = look-index sentIndex x (encoderOf m .entries) (sentAt m place) (here .1) in
       let fine = encoder-laws .fits m small forms .forms .entries x (sentAt m place) (here .1) in
-      let plain : plainAt m (indexAt m place) ≤ 4096 = fine .plain in
+      let nontrailer : nontrailerAt m (indexAt m place) ≤ 4096 = fine .nontrailer in
       let trailer : trailerAt m (indexAt m place) ≤ 4096 = fine .trailer in
       record {
         below = omega (arith, changes .ordered .few, here .0);
         index = at;
         low = omega (arith, fine .low);
         high = omega (arith, fine .high);
-        plain = rw at at plain;
+        nontrailer = rw at at nontrailer;
         trailer = rw at at trailer;
         status = status-low place (here .0);
         looked = here .1;

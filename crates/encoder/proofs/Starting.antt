@@ -8,7 +8,7 @@ use Rattle.memory.proofs.Order.{need-true, need-false}
 use Rattle.integers.specs.Answers.{done, over-limit, no-room}
 use Rattle.state.specs.Layout.{encoderLength, encoderRole}
 use Rattle.table.specs.Changes.{started}
-use Rattle.changes.proofs.EncoderClaim.{encoder-claim}
+use Rattle.table_laws.proofs.EncoderClaim.{encoder-claim}
 use Rattle.reply.specs.Result.{refused}
 use Rattle.encoder.specs.Calls.{startCall}
 

@@ -6,7 +6,7 @@ use lib.Dec.{leb}
 use Rattle.memory.specs.Choice.{need}
 use Rattle.integers.specs.Answers.{done, over-limit, not-allowed, out-of-turn, no-room, no-state}
 use Rattle.fields.specs.Form.{Field}
-use Rattle.fields.specs.Reading.{ListRead, list, readList}
+use Rattle.fields.specs.Reading.{FieldListRead, list, readFieldList}
 use Rattle.fields.specs.Reading as reading
 use Rattle.instructions.specs.Reading.{readForEncoder, onInstruction}
 use Rattle.instructions.specs.declared.read.InstructionPlace.{InstructionPlace}
@@ -37,21 +37,21 @@ deleteCall m index out =
     need (formsEncoder m) (refused m out no-state) (stepped overlayEncoder m out (deleteSent (encoderOf m) index (length out)))
 
 -- what follows a whole field list, or the refusal passed on
-abbrev pub onList : (ℕ → Result) → ListRead → (List Field → Result) → Result
+abbrev pub onList : (ℕ → Result) → FieldListRead → (List Field → Result) → Result
 onList stop (list fs) f = f fs
-onList stop (reading.ListRead.refused number) f = stop number
+onList stop (reading.FieldListRead.refused number) f = stop number
 
 -- "Block to write: 11, the list left to right (16, string 13), block length 13, 12."
 unfoldable pub blockCall : List ℕ → ℕ → ℕ → List ℕ → List ℕ → Result
 blockCall m stream part s out =
     need (formsEncoder m) (refused m out no-state)
     (need (partTurn (encoderOf m .written) stream (partOf part)) (refused m out out-of-turn)
-    (onList (refused m out) (readList s) (λ fs. stepped overlayEncoder m out (encodeBlock (encoderOf m) stream part fs (length out)))))
+    (onList (refused m out) (readFieldList s) (λ fs. stepped overlayEncoder m out (encodeBlock (encoderOf m) stream part fs (length out)))))
 
 -- an acknowledgement is all that the encoder's reader finds
 abbrev pub acknowledged : List ℕ → InstructionPlace → ℕ → Result
 acknowledged m (Insert i name value) taken = refused m [] not-allowed
-acknowledged m (Delete i plain trailer) taken = refused m [] not-allowed
+acknowledged m (Delete i nontrailer trailer) taken = refused m [] not-allowed
 acknowledged m (Acknowledge i) taken = stepped overlayEncoder m [] (readAck (encoderOf m) (i .value) taken)
 
 -- one acknowledgement from the front of the bytes s; it tells how many it took

@@ -15,11 +15,11 @@ use integers::answer::NOT_UNDER_DELETION;
 use integers::number::TableIndex;
 use memory::number::u16_at;
 use reply::Reply;
-use search::find::Found;
-use search::find::find;
 use state::encoder::forms_encoder;
 use state::layout::row_place;
 use table::remove::remove;
+use table_search::find::Found;
+use table_search::find::find;
 
 // Frees the entry with this index, if it is under deletion.
 fn free(m: &mut [u8], index: TableIndex, taken: u32) -> Reply

@@ -4,7 +4,7 @@ ghost use mathlib.Core.Bool.{true};
 ghost use Prim.Native.Nat.{ℕ};
 ghost use Rattle.state.specs.Layout.{countOf, statusAt};
 ghost use Rattle.state.specs.Forms.{formsEncoder};
-ghost use Rattle.search.specs.Search.{findFrom};
+ghost use Rattle.table_search.specs.Search.{findFrom};
 ghost use Rattle.reply.specs.Reply.{answerOf};
 ghost use Rattle.encoder.specs.Calls.{deleteCall};
 ghost use Rattle.encoder.specs.Steps.{foundDelete};
@@ -17,13 +17,13 @@ use integers::answer::VACANT;
 use integers::number::TableIndex;
 use memory::number::u16_at;
 use reply::Reply;
-use rows::set_status;
-use search::find::Found;
-use search::find::find;
 use sizes::delete_size;
 use state::encoder::forms_encoder;
 use state::encoder::reference_place;
 use state::layout::row_place;
+use table_rows::set_status;
+use table_search::find::Found;
+use table_search::find::find;
 
 // An entry that is not under deletion: 12, or its delete.
 fn delete_found(m: &mut [u8], index: TableIndex, place: usize, out: &mut [u8]) -> Reply
@@ -34,15 +34,15 @@ fn delete_found(m: &mut [u8], index: TableIndex, place: usize, out: &mut [u8]) -
     ensures { λ _. ⌜ now (out .exit) ≡ foundDelete (now (m .entry)) place (now (out .entry)) .output ⌝ }
 {
     let at = reference_place(index.value);
-    let plain = u16_at(m, at) as u32;
+    let nontrailer = u16_at(m, at) as u32;
     let trailer = u16_at(m, at + 38) as u32;
-    let n = delete_size(index.value, plain, trailer);
+    let n = delete_size(index.value, nontrailer, trailer);
     if out.len() < n {
         return Reply::refused(NO_ROOM);
     }
     let none = [0u16; 1];
     let empty = &none[..0];
-    write_delete(index, plain, empty, trailer, empty, out, 0);
+    write_delete(index, nontrailer, empty, trailer, empty, out, 0);
     set_status(m, place, 1);
     Reply::done(n as u32, 0)
 }

@@ -35,10 +35,10 @@ use Rattle.state_laws.proofs.EncoderHolds.{HoldsEncoder, fits-each}
 use Rattle.state_laws.proofs.EncoderForms.{forms-holds-encoder}
 use Rattle.state_laws.proofs.EncoderOverlay.{encoder-fine, length-overlayEncoder, overlay-holds-encoder, overlay-self-encoder}
 use Rattle.deletes.specs.Deletes.{raised}
-use Rattle.changes.specs.EncoderChanges.{referredAt}
-use Rattle.changes.proofs.Finding.{FoundAt, found-here, found-next}
-use Rattle.changes.proofs.FrontFits.{marks-fit}
-use Rattle.changes.proofs.EncoderUpdates.{writes, refers}
+use Rattle.table_laws.specs.EncoderChanges.{referredAt}
+use Rattle.table_laws.proofs.Finding.{FoundAt, found-here, found-next}
+use Rattle.table_laws.proofs.FrontFits.{marks-fit}
+use Rattle.table_laws.proofs.EncoderUpdates.{writes, refers}
 use Rattle.encoder_fields.specs.Measure.{chosen}
 use Rattle.encoder_fields.specs.Refer.{partAt, AllHeld, entered, enteredOne, enteredBy, enteredChoice, InTable}
 use Rattle.encoder_fields.specs.declared.choice.Choice.{Choice}
@@ -159,8 +159,8 @@ module _ (m : List ℕ) (stream part index : ℕ) where
     entered-raised p e =
         ap (λ (q : Part). raised m index q stream) (sym e) ∙ sym (pick-false (ltb index 62) m (raised m index (partAt part) stream) (le-ltb index 62 high))
 
-    pub entered-plain : part ≡ 0 → raised m index nontrailer stream ≡ enteredOne m stream part index
-    entered-plain e = entered-raised nontrailer (pick-yes part 0 nontrailer trailer e)
+    pub entered-nontrailer : part ≡ 0 → raised m index nontrailer stream ≡ enteredOne m stream part index
+    entered-nontrailer e = entered-raised nontrailer (pick-yes part 0 nontrailer trailer e)
 
     pub entered-trailer : (part ≡ 0 → ⊥) → raised m index trailer stream ≡ enteredOne m stream part index
     entered-trailer n = entered-raised trailer (pick-no part 0 nontrailer trailer n)

@@ -15,7 +15,7 @@ use Rattle.memory.proofs.Order.{need-true, need-false}
 use Rattle.integers.specs.Answers.{Answer, done, refusal}
 use Rattle.marks.specs.Marks.{cleared}
 use Rattle.fields.specs.Form.{Field}
-use Rattle.fields.specs.Reading.{ListRead, list, readList, listAnswer}
+use Rattle.fields.specs.Reading.{FieldListRead, list, readFieldList, fieldListAnswer}
 use Rattle.fields.specs.Reading as reading
 use Rattle.blocks.specs.Representation.{Representation, blockWire}
 use Rattle.model.specs.Parts.{Part, nontrailer, trailer, partOf, Marks, inTurn, streams}
@@ -94,9 +94,9 @@ module _ (marks : Marks) (stream part : ℕ) where
 -- ---- a field list
 
 -- a number that is told and not 0 is that of a refusal
-pub list-refused : (r : ListRead) → (listAnswer r .number ≡ 0 → ⊥) → r ≡ reading.ListRead.refused (listAnswer r .number)
+pub list-refused : (r : FieldListRead) → (fieldListAnswer r .number ≡ 0 → ⊥) → r ≡ reading.FieldListRead.refused (fieldListAnswer r .number)
 list-refused (list fs) n = absurd (n refl)
-list-refused (reading.ListRead.refused number) n = refl
+list-refused (reading.FieldListRead.refused number) n = refl
 
 -- ---- the call
 
@@ -116,14 +116,14 @@ module _ (m : List ℕ) (stream part : ℕ) (s out : List ℕ) where
 
     module _ (turn : partTurn (encoderOf m .written) stream (partOf part) ≡ true) where
       after-turn : blockCall m stream part s out
-          ≡ onList (refused m out) (readList s) (λ fs. stepped overlayEncoder m out (encodeBlock (encoderOf m) stream part fs (length out)))
+          ≡ onList (refused m out) (readFieldList s) (λ fs. stepped overlayEncoder m out (encodeBlock (encoderOf m) stream part fs (length out)))
       unfolding blockCall
       after-turn = need-true (formsEncoder m) _ _ forms ∙ need-true (partTurn (encoderOf m .written) stream (partOf part)) _ _ turn
 
-      pub not-a-list : (number : ℕ) → readList s ≡ reading.ListRead.refused number → blockCall m stream part s out ≡ refused m out number
+      pub not-a-list : (number : ℕ) → readFieldList s ≡ reading.FieldListRead.refused number → blockCall m stream part s out ≡ refused m out number
       not-a-list number e =
           after-turn
-          ∙ ap (λ (r : ListRead). onList (refused m out) r (λ fs. stepped overlayEncoder m out (encodeBlock (encoderOf m) stream part fs (length out)))) e
+          ∙ ap (λ (r : FieldListRead). onList (refused m out) r (λ fs. stepped overlayEncoder m out (encodeBlock (encoderOf m) stream part fs (length out)))) e
 
 -- ---- a block in turn whose list reads well
 
@@ -132,7 +132,7 @@ pub record Ready (m : List ℕ) (stream part : ℕ) (s : List ℕ) : Type 0 wher
   pub forms : formsEncoder m ≡ true
   pub turn : partTurn (encoderOf m .written) stream (partOf part) ≡ true
   pub fields : List Field
-  pub read : readList s ≡ list fields
+  pub read : readFieldList s ≡ list fields
 
 module _ {m : List ℕ} {stream part : ℕ} {s : List ℕ} (R : Ready m stream part s) where
   abbrev E : Encoder
@@ -160,12 +160,12 @@ module _ {m : List ℕ} {stream part : ℕ} {s : List ℕ} (R : Ready m stream p
         ap (λ (o : Option Part). encodePart E stream o (R .fields) (length out)) (its-turn .is)
         ∙ need-true (ltb stream streams) _ _ (lt-ltb stream streams (its-turn .below))
         ∙ need-true (inTurn (E .written) stream (partAt part)) _ _ (its-turn .turn)
-        ∙ ap (λ (r : ListRead). writePart E stream (partAt part) (map (choose (E .entries)) (fieldsIn r)) (length out)) (sym (R .read))
+        ∙ ap (λ (r : FieldListRead). writePart E stream (partAt part) (map (choose (E .entries)) (fieldsIn r)) (length out)) (sym (R .read))
 
     call : blockCall m stream part s out ≡ stepped overlayEncoder m out write
     call =
         after-turn m stream part s out (R .forms) (R .turn)
-        ∙ ap (λ (r : ListRead). onList (refused m out) r (λ fs. stepped overlayEncoder m out (encodeBlock E stream part fs (length out)))) (R .read)
+        ∙ ap (λ (r : FieldListRead). onList (refused m out) r (λ fs. stepped overlayEncoder m out (encodeBlock E stream part fs (length out)))) (R .read)
         ∙ ap (stepped overlayEncoder m out) encoded
 
     refuses : (number : ℕ) → write ≡ refuse E number → blockCall m stream part s out ≡ refused m out number

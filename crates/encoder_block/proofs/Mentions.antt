@@ -12,12 +12,12 @@ use Rattle.memory.proofs.Order.{pick-both, pick-true}
 use Rattle.blocks.specs.Representation.{Representation}
 use Rattle.blocks.specs.Meaning.{references, blockReferences}
 use Rattle.model.specs.Parts.{Part, nontrailer, trailer}
-use Rattle.model.specs.Encoder.{Sent, withPlain, withTrailer, mentions, referred, refer}
+use Rattle.model.specs.Encoder.{Sent, withNontrailer, withTrailer, mentions, referred, refer}
 use Rattle.model_laws.proofs.Tables.{pick-yes, pick-no}
 use Rattle.model_laws.proofs.Order.{refer-index}
 use Rattle.state.specs.EncoderState.{rowOfSent}
-use Rattle.changes.specs.EncoderChanges.{referredAt}
-use Rattle.changes.proofs.EncoderReferences.{referred-index, referred-row}
+use Rattle.table_laws.specs.EncoderChanges.{referredAt}
+use Rattle.table_laws.proofs.EncoderReferences.{referred-index, referred-row}
 
 -- ---- the indexes that a block names
 
@@ -44,8 +44,8 @@ module _ (s : ℕ) where
   referred-again : (p : Part) (e : Sent) → referred s p (referred s p e) ≡ referred s p e
   unfolding referred
   referred-again nontrailer e =
-      let z : max (max (e .plain) (suc s)) (suc s) ≡ max (e .plain) (suc s) = omega arith in
-      ap (withPlain e) z
+      let z : max (max (e .nontrailer) (suc s)) (suc s) ≡ max (e .nontrailer) (suc s) = omega arith in
+      ap (withNontrailer e) z
   referred-again trailer e =
       let z : max (max (e .trailer) (suc s)) (suc s) ≡ max (e .trailer) (suc s) = omega arith in
       ap (withTrailer e) z

@@ -18,7 +18,7 @@ use Rattle.state_laws.proofs.FrontHolds.{FineFront}
 use Rattle.state_laws.proofs.FrontLengths.{length-headBytes, length-marksBytes, length-rowsBytes}
 use Rattle.state_laws.proofs.FrontRead.{fine-text}
 use Rattle.state_laws.proofs.References.{references-comm}
-use Rattle.changes.proofs.Fronts.{over-front}
+use Rattle.table_laws.proofs.Fronts.{over-front}
 
 -- ---- one reference over another
 
@@ -28,10 +28,10 @@ below-reference : (x : Sent) (m : List ℕ) (j : ℕ) (ys : List ℕ) → j + le
 unfolding referenceOver
 below-reference x m j ys h =
     let at : ℕ = referencePlace (x .index) in
-    let plain : List ℕ = numberBytes 2 (x .plain) in
+    let nontrailer : List ℕ = numberBytes 2 (x .nontrailer) in
     let trailer : List ℕ = numberBytes 2 (x .trailer) in
-    sym (overlay-comm (overlay m at plain) j ys (at + 38) trailer (omega arith))
-    ∙ ap (λ (l : List ℕ). overlay l (at + 38) trailer) (sym (overlay-comm m j ys at plain h))
+    sym (overlay-comm (overlay m at nontrailer) j ys (at + 38) trailer (omega arith))
+    ∙ ap (λ (l : List ℕ). overlay l (at + 38) trailer) (sym (overlay-comm m j ys at nontrailer h))
 
 -- so may a reference at a lower index
 reference-swap : (y x : Sent) (m : List ℕ) → 62 ≤ y .index → y .index < x .index
@@ -39,10 +39,10 @@ reference-swap : (y x : Sent) (m : List ℕ) → 62 ≤ y .index → y .index < 
 unfolding referenceOver numberBytes
 reference-swap y x m low below =
     let at : ℕ = referencePlace (y .index) in
-    let plain : List ℕ = numberBytes 2 (y .plain) in
+    let nontrailer : List ℕ = numberBytes 2 (y .nontrailer) in
     let trailer : List ℕ = numberBytes 2 (y .trailer) in
-    ap (λ (l : List ℕ). overlay l (at + 38) trailer) (below-reference x m at plain (omega arith))
-    ∙ below-reference x (overlay m at plain) (at + 38) trailer (omega arith)
+    ap (λ (l : List ℕ). overlay l (at + 38) trailer) (below-reference x m at nontrailer (omega arith))
+    ∙ below-reference x (overlay m at nontrailer) (at + 38) trailer (omega arith)
 
 references-swap : (y : Sent) → 62 ≤ y .index → (lo : ℕ) (xs : List Sent) (m : List ℕ) → y .index < lo → Ascending sentIndex lo xs
     → referenceOver y (referencesOver xs m) ≡ referencesOver xs (referenceOver y m)
@@ -58,9 +58,9 @@ reference-twice : (x y : Sent) (m : List ℕ) → y .index ≡ x .index → refe
 unfolding referenceOver numberBytes
 reference-twice x y m same =
     let at : ℕ = referencePlace (x .index) in
-    let p : List ℕ = numberBytes 2 (x .plain) in
+    let p : List ℕ = numberBytes 2 (x .nontrailer) in
     let t : List ℕ = numberBytes 2 (x .trailer) in
-    let p′ : List ℕ = numberBytes 2 (y .plain) in
+    let p′ : List ℕ = numberBytes 2 (y .nontrailer) in
     let t′ : List ℕ = numberBytes 2 (y .trailer) in
     let swap : overlay (overlay (overlay m at p) (at + 38) t) at p′ ≡ overlay (overlay m at p′) (at + 38) t =
     sym (overlay-comm (overlay m at p) at p′ (at + 38) t (omega arith))

@@ -10,9 +10,9 @@ use Rattle.memory.specs.Choice.{pick}
 use Rattle.memory.specs.Bytes.{Small, overlay}
 use Rattle.memory.proofs.Order.{either, pick-false}
 use Rattle.memory.proofs.Overlay.{length-overlay, overlay-append}
-use Rattle.fields.specs.Form.{Field, Fine as FineField}
-use Rattle.fields.specs.Reading.{ListRead, list, readList}
-use Rattle.blocks.specs.Representation.{Representation, Fine, representationWire, blockWire}
+use Rattle.fields.specs.Form.{Field, FineField}
+use Rattle.fields.specs.Reading.{FieldListRead, list, readFieldList}
+use Rattle.blocks.specs.Representation.{Representation, FineRepresentation, representationWire, blockWire}
 use Rattle.blocks.proofs.Writing.{block-wire-nil, block-wire-cons}
 use Rattle.model.specs.Parts.{streams}
 use Rattle.model.specs.Encoder.{Sent, FormsEncoder, choose}
@@ -98,9 +98,9 @@ module _ (m₀ : List ℕ) (small : Small m₀) (forms : formsEncoder m₀ ≡ t
   abbrev all : ℕ
   all = length (blockWire (representationsOf m₀ s))
 
-  pub progress-none : (fs : List Field) → readList s ≡ list fs → Progress m₀ stream part s out₀ write m₀ out₀ 0 0
+  pub progress-none : (fs : List Field) → readFieldList s ≡ list fs → Progress m₀ stream part s out₀ write m₀ out₀ 0 0
   progress-none fs e =
-      let is : representationsOf m₀ s ≡ map (choose l) fs = ap (λ (r : ListRead). map (choose l) (fieldsIn r)) e in
+      let is : representationsOf m₀ s ≡ map (choose l) fs = ap (λ (r : FieldListRead). map (choose l) (fieldsIn r)) e in
       record {
         done = [];
         rest = fs;
@@ -212,8 +212,8 @@ module _ (m : List ℕ) (small : Small m) (forms : formsEncoder m ≡ true) (f :
       held-low m small forms stream below part f choice
       (subst (λ (r : Representation). AllHeld (encoderOf m .entries) (r ∷ [])) (sym e) (all-held (encoderOf m) state (f ∷ []) (fine, tt)))
 
-  pub choice-fine : Fine (chosen f choice)
-  choice-fine = subst Fine (sym e) (choose-fine (encoderOf m) state f fine)
+  pub choice-fine : FineRepresentation (chosen f choice)
+  choice-fine = subst FineRepresentation (sym e) (choose-fine (encoderOf m) state f fine)
 
   pub choice-long : 16960 ≤ length m
   choice-long = forms-holds-encoder m small forms .long

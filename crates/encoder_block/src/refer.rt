@@ -3,7 +3,7 @@ ghost use mathlib.Core.Path.{_≡_};
 ghost use Prim.Native.Nat.{_≤_, _<_};
 ghost use lib.ListN.{length};
 ghost use Rattle.encoder_fields.specs.Refer.{enteredOne, enteredChoice, InTable};
-use deletes::references::refer_plain;
+use deletes::references::refer_nontrailer;
 use deletes::references::refer_trailer;
 use encoder_fields::choice::Choice;
 use integers::number::StreamNumber;
@@ -18,7 +18,7 @@ fn enter(m: &mut [u8], stream: StreamNumber, part: u64, index: TableIndex)
         return;
     }
     if part == 0 {
-        refer_plain(m, index, stream);
+        refer_nontrailer(m, index, stream);
     } else {
         refer_trailer(m, index, stream);
     }

@@ -14,8 +14,8 @@ use Rattle.wire.specs.Name.{indexed as by-index, literal as by-bytes}
 use Rattle.statics.specs.Search.{findName, findBoth}
 use Rattle.statics.specs.declared.search.StaticFound.{StaticFound}
 use Rattle.statics.specs.declared.search.StaticFound.the-variants.{At, Nothing}
-use Rattle.fields.specs.Form.{Field, Fine, AllFine, fieldForm, fieldSize, listForm}
-use Rattle.fields.specs.Reading.{ListRead, list, readList}
+use Rattle.fields.specs.Form.{Field, FineField, AllFine, fieldForm, fieldSize, listForm}
+use Rattle.fields.specs.Reading.{FieldListRead, list, readFieldList}
 use Rattle.fields.proofs.Sizes.{fieldForm-length}
 use Rattle.fields.proofs.Lists.{list-forth}
 use Rattle.blocks.specs.Representation.{Representation, indexed, literal, representationWire, blockWire}
@@ -110,12 +110,12 @@ all-short l (f ∷ fs) fine =
       all-short l fs (fine .1),
     )
 
-pub block-short : (m s : List ℕ) → Small s → (fs : List Field) → readList s ≡ list fs → length (blockWire (representationsOf m s)) ≤ 2 * length s
+pub block-short : (m s : List ℕ) → Small s → (fs : List Field) → readFieldList s ≡ list fs → length (blockWire (representationsOf m s)) ≤ 2 * length s
 block-short m s small fs e =
     let w = list-forth s small fs e in
     omega (
       arith,
-      ap (λ (r : ListRead). length (blockWire (map (choose (encoderOf m .entries)) (fieldsIn r)))) e,
+      ap (λ (r : FieldListRead). length (blockWire (map (choose (encoderOf m .entries)) (fieldsIn r)))) e,
       all-short (encoderOf m .entries) fs (w .1),
       ap length (w .0),
     )

@@ -20,10 +20,10 @@ use Rattle.model_laws.proofs.Tables.{pick-yes, pick-no}
 use Rattle.state.specs.Layout.{countOf, indexAt}
 use Rattle.state.specs.EncoderState.{sentOfRow, encoderOf}
 use Rattle.state.specs.Forms.{formsEncoder}
-use Rattle.search.specs.Search.{Ordered, servesAt, servesBothAt, lowestRow}
-use Rattle.search.specs.declared.names.Sought.the-variants.{Row, Nothing}
-use Rattle.changes.specs.EncoderChanges.{EncoderChanges}
-use Rattle.changes.proofs.EncoderClaim.{encoder-claim}
+use Rattle.table_search.specs.Search.{Ordered, servesAt, servesBothAt, lowestRow}
+use Rattle.table_search.specs.declared.names.Sought.the-variants.{Row, Nothing}
+use Rattle.table_laws.specs.EncoderChanges.{EncoderChanges}
+use Rattle.table_laws.proofs.EncoderClaim.{encoder-claim}
 use Rattle.encoder_fields.specs.Measure.{fieldWith, Chooses}
 use Rattle.encoder_fields.specs.declared.choice.Choice.{Choice}
 

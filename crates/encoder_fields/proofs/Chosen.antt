@@ -14,8 +14,8 @@ use Rattle.statics.specs.Search.{findName, findBoth}
 use Rattle.statics.specs.declared.search.StaticFound.{StaticFound}
 use Rattle.statics.specs.declared.search.StaticFound.the-variants.{At, Nothing}
 use Rattle.statics.proofs.Finding.{name-found, both-found}
-use Rattle.fields.specs.Form.{Field, Fine as FineField, AllFine as AllFineFields}
-use Rattle.blocks.specs.Representation.{Representation, indexed, literal, Fine, AllFine}
+use Rattle.fields.specs.Form.{Field, FineField, AllFine as AllFineFields}
+use Rattle.blocks.specs.Representation.{Representation, indexed, literal, FineRepresentation, AllFine}
 use Rattle.blocks.specs.Meaning.{references, blockReferences}
 use Rattle.model.specs.Table.{look, lowest}
 use Rattle.model.specs.Decoder.{isSome}
@@ -84,7 +84,7 @@ module _ (E : Encoder) (F : FormsEncoder E) where
       go (At j) h = let w = both-found (f .name) (f .value) 61 1 j h in static-known (j .value) (omega (arith, w .low)) (omega (arith, w .high))
       go Nothing h = dynamic (lowest sentIndex (servesBoth (f .name) (f .value)) l) refl
 
-  known-fine : (r : Representation) → AllKnown r → Fine r
+  known-fine : (r : Representation) → AllKnown r → FineRepresentation r
   known-fine (indexed i) k = (k .low, omega (arith, k .high))
   known-fine (literal flag (by-index i) value) k = (k .0, (k .1 .low, omega (arith, k .1 .high)), k .2)
   known-fine (literal flag (by-bytes name) value) k = k
@@ -95,7 +95,7 @@ module _ (E : Encoder) (F : FormsEncoder E) where
       let e = List·Memᴰ·eq-of-singleton m in subst (λ (n : ℕ). 62 ≤ n → isSome (look sentIndex n l) ≡ true) (sym e) (k .1 .held) h
   known-held (literal flag (by-bytes name) value) k i m h = absurd (List·Memᴰ·not-nil m)
 
-  pub choose-fine : (f : Field) → FineField f → Fine (choose l f)
+  pub choose-fine : (f : Field) → FineField f → FineRepresentation (choose l f)
   choose-fine f fine = known-fine (choose l f) (choose-known f fine)
 
   -- ---- whole lists

@@ -9,14 +9,14 @@ use Rattle.memory.specs.Bytes.{overlay}
 use Rattle.memory.proofs.Order.{split}
 use Rattle.memory.proofs.Overlay.{length-overlay, overlay-append}
 use Rattle.memory.proofs.Places.{length-part}
-use Rattle.fields.specs.Form.{Field, Fine}
-use Rattle.fields.specs.Reading.{readField, fieldAnswer, fieldOf, fieldsFrom, readList, ListRead.list}
+use Rattle.fields.specs.Form.{Field, FineField}
+use Rattle.fields.specs.Reading.{readField, fieldAnswer, fieldOf, fieldsFrom, readFieldList, FieldListRead.list}
 use Rattle.fields.specs.declared.read.FieldPlace.{FieldPlace}
 use Rattle.fields.specs.declared.read.FieldRead.{FieldRead}
 use Rattle.fields.specs.declared.read.FieldRead.the-variants.{Found, Refused}
 use Rattle.fields.proofs.Bounds.{FieldBounds, field-good}
 use Rattle.fields.proofs.Walk.{walk-done, walk-refused, walk-more}
-use Rattle.blocks.specs.Representation.{Representation, representationWire, blockWire, Fine as Says}
+use Rattle.blocks.specs.Representation.{Representation, representationWire, blockWire, FineRepresentation as Says}
 use Rattle.blocks.proofs.Writing.{block-wire-nil, block-wire-cons}
 use Rattle.model.specs.Encoder.{Sent, choose}
 use Rattle.encoder_fields.specs.Measure.{InField, capped}
@@ -28,7 +28,7 @@ pub record Left (s : List ℕ) (at : ℕ) (rest : List Field) : Type 0 where
   pub enough : length s ≤ at + turns
   pub reads : fieldsFrom turns s at [] ≡ list rest
 
-pub left-all : (s : List ℕ) (fs : List Field) → readList s ≡ list fs → Left s 0 fs
+pub left-all : (s : List ℕ) (fs : List Field) → readFieldList s ≡ list fs → Left s 0 fs
 left-all s fs e = record { turns = length s; enough = omega arith; reads = e }
 
 module _ (s : List ℕ) (at : ℕ) (rest : List Field) (L : Left s at rest) where
@@ -64,7 +64,7 @@ in-field s at p next b = record {
   value-short = b .value-short;
 }
 
-pub field-fine : (s : List ℕ) (p : FieldPlace) → InField s p → Fine (fieldOf s p)
+pub field-fine : (s : List ℕ) (p : FieldPlace) → InField s p → FineField (fieldOf s p)
 field-fine s p i = record {
   flag-bit = i .flag;
   name-short = omega (arith, length-part s (p .name .start) (p .name .length) (i .name), i .name-short);

@@ -6,7 +6,7 @@ use lib.Dec.{ltb, leb}
 use Rattle.memory.specs.Choice.{pick, need}
 use Rattle.integers.specs.Answers.{too-long, no-room}
 use Rattle.fields.specs.Form.{Field}
-use Rattle.fields.specs.Reading.{InText, ListRead, list, readList}
+use Rattle.fields.specs.Reading.{InText, FieldListRead, list, readFieldList}
 use Rattle.fields.specs.Reading as reading
 use Rattle.fields.specs.declared.read.FieldPlace.{FieldPlace}
 use Rattle.wire.specs.Name.{indexed as by-index, literal as by-bytes}
@@ -38,16 +38,16 @@ abbrev pub Chooses : List ℕ → Field → Choice → Type 0
 Chooses m f choice = chosen f choice ≡ choose (encoderOf m .entries) f
 
 -- the fields of a list that reads well
-abbrev pub fieldsIn : ListRead → List Field
+abbrev pub fieldsIn : FieldListRead → List Field
 fieldsIn (list fs) = fs
-fieldsIn (reading.ListRead.refused number) = []
+fieldsIn (reading.FieldListRead.refused number) = []
 
 abbrev pub ReadsWell : List ℕ → Type 0
-ReadsWell s = (fs : List Field) × (readList s ≡ list fs)
+ReadsWell s = (fs : List Field) × (readFieldList s ≡ list fs)
 
 -- the representations of the list s against the table in memory
 abbrev pub representationsOf : List ℕ → List ℕ → List Representation
-representationsOf m s = map (choose (encoderOf m .entries)) (fieldsIn (readList s))
+representationsOf m s = map (choose (encoderOf m .entries)) (fieldsIn (readFieldList s))
 
 -- a block's bytes, counted up to one more than a block may have: a list has no limit of its own, so a sum would overflow
 unfoldable pub capped : ℕ → ℕ

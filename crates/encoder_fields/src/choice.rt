@@ -15,10 +15,10 @@ use fields::read::FieldPlace;
 use fields::read::TextPlace;
 use integers::number::TableIndex;
 use memory::number::u32_at;
-use search::names::Paired;
-use search::names::Sought;
 use state::layout::row_place;
 use statics::search::StaticFound;
+use table_search::names::Paired;
+use table_search::names::Sought;
 
 pub enum Choice {
     // Name and value by index.
@@ -57,7 +57,7 @@ fn choose_literal(m: &[u8], flag: u8, name: &[u8], value: &[u8]) -> Choice
 {
     match statics::search::find_name(name) {
         StaticFound::At(i) => Choice::Named(i),
-        StaticFound::Nothing => match search::names::find_name(m, name) {
+        StaticFound::Nothing => match table_search::names::find_name(m, name) {
             Sought::Row(place) => Choice::Named(index_at(m, place)),
             Sought::Nothing => Choice::Literal,
         },
@@ -71,7 +71,7 @@ fn choose_stored(m: &[u8], name: &[u8], value: &[u8]) -> Choice
 {
     match statics::search::find_both(name, value) {
         StaticFound::At(j) => Choice::Indexed(j),
-        StaticFound::Nothing => match search::names::find_pair(m, name, value) {
+        StaticFound::Nothing => match table_search::names::find_pair(m, name, value) {
             Paired::Both(place) => Choice::Indexed(index_at(m, place)),
             Paired::Name(place) => match statics::search::find_name(name) {
                 StaticFound::At(i) => Choice::Named(i),

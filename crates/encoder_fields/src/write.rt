@@ -4,7 +4,7 @@ ghost use Prim.Native.Nat.{_+_, _≤_};
 ghost use lib.ListN.{length};
 ghost use Rattle.memory.specs.Bytes.{overlay};
 ghost use Rattle.fields.specs.Reading.{fieldOf};
-ghost use Rattle.blocks.specs.Representation.{representationWire, Fine};
+ghost use Rattle.blocks.specs.Representation.{representationWire, FineRepresentation};
 ghost use Rattle.encoder_fields.specs.Measure.{InField, chosen};
 use crate::choice::Choice;
 use crate::choice::text_at;
@@ -16,7 +16,7 @@ use fields::read::FieldPlace;
 // One field's representation, by its choice.
 pub fn write_choice(choice: Choice, s: &[u8], f: FieldPlace, out: &mut [u8], at: usize) -> usize
     requires { ⌜ InField (now s) f ⌝ }
-    requires { ⌜ Fine (chosen (fieldOf (now s) f) choice) ⌝ }
+    requires { ⌜ FineRepresentation (chosen (fieldOf (now s) f) choice) ⌝ }
     requires { ⌜ at + length (representationWire (chosen (fieldOf (now s) f) choice)) ≤ length (now out) ⌝ }
     ensures { λ r. ⌜ r ≡ at + length (representationWire (chosen (fieldOf (now (s .entry)) f) choice)) ⌝ }
     ensures { λ _. ⌜ now (out .exit) ≡ overlay (now (out .entry)) at (representationWire (chosen (fieldOf (now (s .entry)) f) choice)) ⌝ }

@@ -18,7 +18,7 @@ use Rattle.model.specs.Encoder.{sentIndex, Encoder, sentSize, withSent, newSent
 use Rattle.state.specs.Layout.{limitOf, heldOf, countOf}
 use Rattle.state.specs.EncoderState.{encoderOf, overlayEncoder}
 use Rattle.state.specs.Forms.{formsEncoder}
-use Rattle.search.specs.Search as memory
+use Rattle.table_search.specs.Search as memory
 use Rattle.table.specs.Changes.{inserted}
 use Rattle.deletes.specs.Deletes.{unreferred}
 use Rattle.reply.specs.Result.{refused, stepped}
@@ -122,13 +122,13 @@ module _ (m : List ℕ) (small : Small m) (forms : formsEncoder m ≡ true) (nam
   pub fitting-held : Fitting m name value → heldOf m + (length name + length value + 32) ≤ 4096
   fitting-held f = omega (arith, f .limit, limit-low m small forms)
 
-  pub fitting-place : Fitting m name value → memory.vacantFrom m (countOf m) 0 < 128
+  pub fitting-place : Fitting m name value → memory.vacantRow m (countOf m) 0 < 128
   fitting-place f =
       let few = f .few in
       omega (arith, changes m small forms .opening (length name) (length value) (fitting-held f) (omega arith) .below)
 
   -- ---- an entry that fits, its index i at the lowest vacant place, its name as chosen
-  module _ (place i : ℕ) (p : place ≡ memory.vacantFrom m (countOf m) 0) (q : i ≡ 62 + place)
+  module _ (place i : ℕ) (p : place ≡ memory.vacantRow m (countOf m) 0) (q : i ≡ 62 + place)
       (chosen : Name) (e : chosen ≡ chooseName (E .entries) name) (n : ℕ) (s : n ≡ length (instructionWire (insert i chosen value))) where
     vacant : vacantFrom sentIndex 62 (E .entries) ≡ i
     vacant = omega (arith, changes m small forms .vacant)

@@ -19,8 +19,8 @@ use Rattle.state.specs.Layout.{countOf, indexAt}
 use Rattle.state.specs.EncoderState.{sentOfRow, encoderOf}
 use Rattle.state.specs.Forms.{formsEncoder}
 use Rattle.state_laws.proofs.EncoderLaws.{encoder-laws}
-use Rattle.search.specs.Search.{servesAt, lowestRow}
-use Rattle.search.specs.declared.names.Sought.the-variants.{Row, Nothing}
+use Rattle.table_search.specs.Search.{servesAt, lowestRow}
+use Rattle.table_search.specs.declared.names.Sought.the-variants.{Row, Nothing}
 use Rattle.encoder_insert.specs.Steps.{dynamicChoice}
 use Rattle.encoder.proofs.Standing.{changes}
 

@@ -7,9 +7,9 @@ ghost use Rattle.state.specs.Forms.{formsEncoder};
 ghost use Rattle.encoder_insert.specs.Steps.{chosenName, dynamicChoice};
 use integers::number::TableIndex;
 use memory::number::u32_at;
-use search::names::Sought;
 use state::layout::row_place;
 use statics::search::StaticFound;
+use table_search::names::Sought;
 
 pub enum NameChoice {
     Index(TableIndex),
@@ -21,7 +21,7 @@ fn choose_dynamic(m: &[u8], name: &[u8]) -> NameChoice
     requires { ⌜ formsEncoder (now m) ≡ true ⌝ }
     ensures { λ r. ⌜ chosenName (now (name .entry)) r ≡ dynamicChoice (now (m .entry)) (now (name .entry)) ⌝ }
 {
-    match search::names::find_name(m, name) {
+    match table_search::names::find_name(m, name) {
         Sought::Row(place) => NameChoice::Index(TableIndex {
             value: u32_at(m, row_place(place)),
         }),

@@ -5,7 +5,7 @@ ghost use Prim.Native.Nat.{ℕ, _+_, _≤_, _<_};
 ghost use lib.ListN.{length};
 ghost use Rattle.state.specs.Layout.{countOf, heldOf};
 ghost use Rattle.state.specs.Forms.{formsEncoder};
-ghost use Rattle.search.specs.Search.{vacantFrom};
+ghost use Rattle.table_search.specs.Search.{vacantRow};
 ghost use Rattle.table.specs.Changes.{inserted};
 ghost use Rattle.deletes.specs.Deletes.{unreferred};
 ghost use Rattle.reply.specs.Reply.{answerOf};
@@ -24,7 +24,6 @@ use integers::answer::TOO_LONG;
 use integers::number::TableIndex;
 use memory::number::u16_at;
 use reply::Reply;
-use search::find::lowest_vacant;
 use sizes::insert_index_size;
 use sizes::insert_text_size;
 use state::encoder::forms_encoder;
@@ -33,12 +32,13 @@ use state::layout::FIRST_INDEX;
 use state::layout::HELD;
 use state::layout::LIMIT;
 use state::layout::PLACES;
+use table_search::find::lowest_vacant;
 use wire::text::NAME_LIMIT;
 use wire::text::VALUE_LIMIT;
 
 // Puts the entry in at its place, referred to by no block.
 fn enter(m: &mut [u8], place: usize, index: TableIndex, name: &[u8], value: &[u8])
-    requires { ⌜ (place ≡ vacantFrom (now m) (countOf (now m)) 0) × (index .value ≡ 62 + place) × (formsEncoder (now m) ≡ true) ⌝ }
+    requires { ⌜ (place ≡ vacantRow (now m) (countOf (now m)) 0) × (index .value ≡ 62 + place) × (formsEncoder (now m) ≡ true) ⌝ }
     requires { ⌜ (heldOf (now m) + (length (now name) + length (now value) + 32) ≤ 4096) × (countOf (now m) < 128) ⌝ }
     ensures { λ _. ⌜ now (m .exit) ≡ unreferred (inserted (now (m .entry)) place (index .value) (now (name .entry)) (now (value .entry))) (index .value) ⌝ }
 {

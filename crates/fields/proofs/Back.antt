@@ -8,7 +8,7 @@ use lib.ListN.{length, getD}
 use Rattle.memory.specs.Bytes.{Has}
 use Rattle.memory.proofs.Order.{split}
 use Rattle.memory.proofs.Places.{has-left, has-right, has-end, has-part}
-use Rattle.fields.specs.Form.{Field, Fine, lengthForm, textForm, fieldForm}
+use Rattle.fields.specs.Form.{Field, FineField, lengthForm, textForm, fieldForm}
 use Rattle.fields.specs.Reading.{readLength, readText, readField, textOf, fieldOf}
 use Rattle.fields.specs.declared.read.TextPlace.{TextPlace}
 use Rattle.fields.specs.declared.read.LengthRead.the-variants.{Length}
@@ -57,7 +57,7 @@ module _ (s : List ℕ) (at : ℕ) (xs : List ℕ) (p : Has s at (textForm xs)) 
   unfolding textForm
   text-same = has-part s (at + length (lengthForm (length xs))) xs (has-right s at (lengthForm (length xs)) xs p)
 
-pub field-back : (s : List ℕ) (at : ℕ) (f : Field) → Fine f → Has s at (fieldForm f)
+pub field-back : (s : List ℕ) (at : ℕ) (f : Field) → FineField f → Has s at (fieldForm f)
     → (p : FieldPlace) × (readField s at ≡ Found p (at + length (fieldForm f))) × (fieldOf s p ≡ f)
 unfolding fieldForm
 field-back s at f h p =

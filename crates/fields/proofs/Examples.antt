@@ -4,7 +4,7 @@ use mathlib.Core.List.{List, [], _∷_}
 use Prim.Native.Nat.{ℕ}
 use Rattle.integers.specs.Integer.{groupWire}
 use Rattle.fields.specs.Form.{Field, textForm, fieldForm, listForm}
-use Rattle.fields.specs.Reading.{readLength, readText, readField, fieldsFrom, readList, ListRead.list, ListRead.refused}
+use Rattle.fields.specs.Reading.{readLength, readText, readField, fieldsFrom, readFieldList, FieldListRead.list, FieldListRead.refused}
 use Rattle.fields.specs.declared.read.LengthRead.{LengthRead}
 use Rattle.fields.specs.declared.read.LengthRead.the-variants.{Length, Refused}
 
@@ -33,13 +33,13 @@ unfolding readLength
 length-examples = (refl, refl, refl, refl, refl, refl, refl, refl)
 
 abbrev ListExamples : Type 0
-ListExamples = (readList (0x00 ∷ 0x01 ∷ 0x68 ∷ 0x01 ∷ 0x39 ∷ []) ≡ list (h-is-9 ∷ []))
+ListExamples = (readFieldList (0x00 ∷ 0x01 ∷ 0x68 ∷ 0x01 ∷ 0x39 ∷ []) ≡ list (h-is-9 ∷ []))
     × (listForm (h-is-9 ∷ []) ≡ 0x00 ∷ 0x01 ∷ 0x68 ∷ 0x01 ∷ 0x39 ∷ [])
     -- "The empty list is no bytes"
-    × (readList [] ≡ list [])
+    × (readFieldList [] ≡ list [])
     -- a flag of 2, and a value that is cut
-    × (readList (0x02 ∷ 0x01 ∷ 0x68 ∷ 0x01 ∷ 0x39 ∷ []) ≡ refused 16)
-    × (readList (0x00 ∷ 0x01 ∷ 0x68 ∷ 0x01 ∷ []) ≡ refused 16)
+    × (readFieldList (0x02 ∷ 0x01 ∷ 0x68 ∷ 0x01 ∷ 0x39 ∷ []) ≡ refused 16)
+    × (readFieldList (0x00 ∷ 0x01 ∷ 0x68 ∷ 0x01 ∷ []) ≡ refused 16)
 
 pub list-examples : ListExamples
 unfolding readLength readText readField fieldsFrom groupWire textForm fieldForm listForm

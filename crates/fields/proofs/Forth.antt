@@ -7,7 +7,7 @@ use mathlib.Core.List.{List}
 use lib.ListN.{length, getD}
 use Rattle.memory.specs.Bytes.{Has, Small}
 use Rattle.memory.proofs.Places.{has-join, part-has, length-part}
-use Rattle.fields.specs.Form.{Fine, lengthForm, textForm, fieldForm}
+use Rattle.fields.specs.Form.{FineField, lengthForm, textForm, fieldForm}
 use Rattle.fields.specs.Reading.{readLength, readText, readField, textOf, fieldOf}
 use Rattle.fields.specs.declared.read.TextPlace.{TextPlace}
 use Rattle.fields.specs.declared.read.LengthRead.the-variants.{Length}
@@ -46,7 +46,7 @@ module _ (s : List ℕ) (small : Small s) where
       (rw x (has-join s at (lengthForm (p .length)) (textOf s p) (l .0) z), omega (arith, textForm-split (textOf s p), ap (λ (k : ℕ). length (lengthForm k)) x))
 
   pub field-forth : (at : ℕ) (p : FieldPlace) (next : ℕ) → readField s at ≡ Found p next
-      → Has s at (fieldForm (fieldOf s p)) × (next ≡ at + length (fieldForm (fieldOf s p))) × Fine (fieldOf s p)
+      → Has s at (fieldForm (fieldOf s p)) × (next ≡ at + length (fieldForm (fieldOf s p))) × FineField (fieldOf s p)
   unfolding fieldForm
   field-forth at p next e =
       let i : Parts s at p next = field-inverse s at p next e in

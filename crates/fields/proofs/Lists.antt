@@ -11,7 +11,7 @@ use Rattle.memory.specs.Bytes.{Has, Small}
 use Rattle.memory.proofs.Order.{split}
 use Rattle.memory.proofs.Places.{has-left, has-right, has-join, has-all, has-one}
 use Rattle.fields.specs.Form.{Field, fieldForm, listForm, AllFine}
-use Rattle.fields.specs.Reading.{readField, fieldOf, fieldsFrom, readList, ListRead.list, ListRead.refused}
+use Rattle.fields.specs.Reading.{readField, fieldOf, fieldsFrom, readFieldList, FieldListRead.list, FieldListRead.refused}
 use Rattle.fields.specs.declared.read.FieldPlace.{FieldPlace}
 use Rattle.fields.specs.declared.read.FieldRead.{FieldRead}
 use Rattle.fields.specs.declared.read.FieldRead.the-variants.{Found, Refused}
@@ -41,13 +41,13 @@ from-back s at before (x ∷ fs) h p e f k =
     ∙ from-back s next (before ++ (x ∷ [])) fs (h .1) q (omega arith) (f - 1) (omega arith)
     ∙ ap list (append-snoc before x fs)
 
-pub list-back : (fs : List Field) → AllFine fs → readList (listForm fs) ≡ list fs
+pub list-back : (fs : List Field) → AllFine fs → readFieldList (listForm fs) ≡ list fs
 list-back fs h = from-back (listForm fs) 0 [] fs h (has-all (listForm fs)) (omega arith) (length (listForm fs)) (omega arith)
 
 -- so the bytes tell the fields
 pub list-injective : (fs gs : List Field) → AllFine fs → AllFine gs → listForm fs ≡ listForm gs → fs ≡ gs
 list-injective fs gs h k e =
-    let x : list fs ≡ list gs = sym (list-back fs h) ∙ ap readList e ∙ list-back gs k in
+    let x : list fs ≡ list gs = sym (list-back fs h) ∙ ap readFieldList e ∙ list-back gs k in
     cc
 
 -- ---- what was read is what would be written
@@ -101,7 +101,7 @@ module _ (s : List ℕ) (small : Small s) (all : List Field) where
       (λ l. rest-step f at before l e (λ at before h k e. from-forth f at before h k e) k (readField s at) refl)
       (λ l. rest-none at before (suc f) h l e)
 
-pub list-forth : (s : List ℕ) → Small s → (fs : List Field) → readList s ≡ list fs → (listForm fs ≡ s) × AllFine fs
+pub list-forth : (s : List ℕ) → Small s → (fs : List Field) → readFieldList s ≡ list fs → (listForm fs ≡ s) × AllFine fs
 list-forth s small fs e =
     let r : Rest s 0 [] fs = from-forth s small fs (length s) 0 [] (omega arith) (omega arith) e in
     let w : r .rest ≡ fs = sym (r .whole) in

@@ -11,7 +11,7 @@ use Rattle.memory.specs.Bytes.{overlay}
 use Rattle.memory.proofs.Order.{split, pick-both}
 use Rattle.memory.proofs.Overlay.{overlay-append}
 use Rattle.integers.proofs.Writing.{last-group, next-group}
-use Rattle.fields.specs.Form.{Field, Fine, AllFine, lengthForm, textForm, fieldForm, listForm, textSize, fieldSize}
+use Rattle.fields.specs.Form.{Field, FineField, AllFine, lengthForm, textForm, fieldForm, listForm, textSize, fieldSize}
 
 -- a length in one group, and in two
 pub form-one : (n : ℕ) → n < 128 → lengthForm n ≡ n ∷ []
@@ -40,13 +40,13 @@ pub fieldForm-split : (f : Field) → length (fieldForm f) ≡ 1 + length (textF
 unfolding fieldForm
 fieldForm-split f = omega (arith, length-append (textForm (f .name)) (textForm (f .value)))
 
-pub fieldForm-length : (f : Field) → Fine f → length (fieldForm f) ≡ fieldSize (length (f .name)) (length (f .value))
+pub fieldForm-length : (f : Field) → FineField f → length (fieldForm f) ≡ fieldSize (length (f .name)) (length (f .value))
 unfolding fieldSize
 fieldForm-length f h =
     omega (arith, fieldForm-split f, textForm-length (f .name) (omega arith), textForm-length (f .value) (omega arith))
 
 -- and at most 2,307, so that a list has not more for each field
-fieldForm-most : (f : Field) → Fine f → length (fieldForm f) ≤ 2307
+fieldForm-most : (f : Field) → FineField f → length (fieldForm f) ≤ 2307
 unfolding fieldSize
 fieldForm-most f h =
     omega (arith, fieldForm-length f h, textSize-bound (length (f .name)), textSize-bound (length (f .value)), h .name-short, h .value-short)

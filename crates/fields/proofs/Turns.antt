@@ -7,7 +7,7 @@ use mathlib.Core.List.{List, [], _∷_, _++_}
 use lib.ListN.{length}
 use borrow.Author.Tests.{lt-ltb, le-ltb}
 use Rattle.fields.specs.Form.{Field}
-use Rattle.fields.specs.Reading.{readField, fieldOf, fieldsFrom, ListRead.list, ListRead.refused}
+use Rattle.fields.specs.Reading.{readField, fieldOf, fieldsFrom, FieldListRead.list, FieldListRead.refused}
 use Rattle.fields.specs.declared.read.FieldPlace.{FieldPlace}
 use Rattle.fields.specs.declared.read.FieldRead.{FieldRead}
 use Rattle.fields.specs.declared.read.FieldRead.the-variants.{Found, Refused}

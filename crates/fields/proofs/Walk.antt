@@ -9,7 +9,7 @@ use mathlib.Core.List.{List, [], _∷_, _++_, append-assoc}
 use lib.ListN.{length}
 use Rattle.memory.proofs.Order.{split}
 use Rattle.fields.specs.Form.{Field}
-use Rattle.fields.specs.Reading.{readField, fieldOf, fieldsFrom, readList, listAnswer, ListRead, ListRead.list, ListRead.refused}
+use Rattle.fields.specs.Reading.{readField, fieldOf, fieldsFrom, readFieldList, fieldListAnswer, FieldListRead, FieldListRead.list, FieldListRead.refused}
 use Rattle.fields.specs.declared.read.FieldPlace.{FieldPlace}
 use Rattle.fields.specs.declared.read.FieldRead.{FieldRead}
 use Rattle.fields.specs.declared.read.FieldRead.the-variants.{Found, Refused}
@@ -18,7 +18,7 @@ use Rattle.fields.proofs.Bounds.{field-bounds}
 use Rattle.fields.proofs.Turns.{fields-done, fields-refused, fields-more}
 
 -- fields put in front of what is read
-abbrev pub after : List Field → ListRead → ListRead
+abbrev pub after : List Field → FieldListRead → FieldListRead
 after before (list fs) = list (before ++ fs)
 after before (refused number) = refused number
 
@@ -68,7 +68,7 @@ module _ (s : List ℕ) where
 
   -- ---- the number of a refusal
 
-  abbrev IfRefused : ListRead → Type 0
+  abbrev IfRefused : FieldListRead → Type 0
   IfRefused (list fs) = Unit {0}
   IfRefused (refused number) = RefusalNumber number
 
@@ -91,13 +91,13 @@ module _ (s : List ℕ) where
   list-number f at before number e = subst IfRefused e (if-refused f at before)
 
   -- the answer 0 is that of a list
-  zero-list : (r : ListRead) → r ≡ readList s → listAnswer r .number ≡ 0 → (fs : List Field) × (readList s ≡ list fs)
+  zero-list : (r : FieldListRead) → r ≡ readFieldList s → fieldListAnswer r .number ≡ 0 → (fs : List Field) × (readFieldList s ≡ list fs)
   zero-list (list fs) e z = (fs, sym e)
   zero-list (refused number) e z =
       ⊎-elim (λ d. absurd (omega arith)) (λ d. absurd (omega arith)) (list-number (length s) 0 [] number (sym e))
 
-  pub checked : listAnswer (readList s) .number ≡ 0 → (fs : List Field) × (readList s ≡ list fs)
-  checked z = zero-list (readList s) refl z
+  pub checked : fieldListAnswer (readFieldList s) .number ≡ 0 → (fs : List Field) × (readFieldList s ≡ list fs)
+  checked z = zero-list (readFieldList s) refl z
 
   -- ---- a list that was read whole, walked again: fs are the fields from the place on
 
@@ -125,7 +125,7 @@ module _ (s : List ℕ) where
           whole : after x (fieldsFrom (f - 1) s next []) ≡ list fs
           whole = sym (before-apart (f - 1) next x []) ∙ sym (fields-more s at [] h r d f (omega arith) p next k) ∙ e
 
-          go : (q : ListRead) → q ≡ fieldsFrom (f - 1) s next []
+          go : (q : FieldListRead) → q ≡ fieldsFrom (f - 1) s next []
               → (rest : List Field) × (fs ≡ fieldOf s p ∷ rest) × (fieldsFrom (f - 1) s next [] ≡ list rest)
           go (list rest) g =
               let y : list (fieldOf s p ∷ rest) ≡ list fs = ap (after (fieldOf s p ∷ [])) g ∙ whole in

@@ -14,7 +14,7 @@ pub record Field : Type 0 where
   pub value : List ℕ
 
 -- "A name has 0 to 255 bytes, a value 0 to 2,047"
-pub record Fine (f : Field) : Type 0 where
+pub record FineField (f : Field) : Type 0 where
   pub flag-bit : f .flag < 2
   pub name-short : length (f .name) ≤ 255
   pub value-short : length (f .value) ≤ 2047
@@ -37,7 +37,7 @@ listForm (f ∷ fs) = fieldForm f ++ listForm fs
 
 abbrev pub AllFine : List Field → Type 0
 AllFine [] = Unit {0}
-AllFine (f ∷ fs) = Fine f × AllFine fs
+AllFine (f ∷ fs) = FineField f × AllFine fs
 
 -- how many bytes a field takes, by the lengths of its name and its value
 abbrev pub textSize : ℕ → ℕ

@@ -90,21 +90,21 @@ abbrev pub InText : List ℕ → TextPlace → Type 0
 InText s p = p .start + p .length ≤ length s
 
 -- a whole list, or its first refusal
-pub data ListRead : Type 0 where
-  list : List Field → ListRead
-  refused : ℕ → ListRead
+pub data FieldListRead : Type 0 where
+  list : List Field → FieldListRead
+  refused : ℕ → FieldListRead
 
 -- the fields from the place at on, after those before it; each takes a byte at least, so f turns are enough where f bytes are left
-unfoldable pub fieldsFrom : ℕ → List ℕ → ℕ → List Field → ListRead
+unfoldable pub fieldsFrom : ℕ → List ℕ → ℕ → List Field → FieldListRead
 fieldsFrom zero s at before = list before
 fieldsFrom (suc f) s at before =
     pick (ltb at (length s))
     (onField refused (readField s at) (λ p next. fieldsFrom f s next (before ++ (fieldOf s p ∷ []))))
     (list before)
 
-abbrev pub readList : List ℕ → ListRead
-readList s = fieldsFrom (length s) s 0 []
+abbrev pub readFieldList : List ℕ → FieldListRead
+readFieldList s = fieldsFrom (length s) s 0 []
 
-abbrev pub listAnswer : ListRead → Answer
-listAnswer (list fs) = done (length fs) 0
-listAnswer (refused number) = refusal number
+abbrev pub fieldListAnswer : FieldListRead → Answer
+fieldListAnswer (list fs) = done (length fs) 0
+fieldListAnswer (refused number) = refusal number

@@ -2,7 +2,7 @@
 ghost use mathlib.Core.Path.{_≡_};
 ghost use Prim.Native.Nat.{ℕ, _+_, _≤_};
 ghost use lib.ListN.{length};
-ghost use Rattle.fields.specs.Reading.{lengthAnswer, textAnswer, fieldAnswer, listAnswer, readLength, readText, textStart, readField, readList, InText};
+ghost use Rattle.fields.specs.Reading.{lengthAnswer, textAnswer, fieldAnswer, fieldListAnswer, readLength, readText, textStart, readField, readFieldList, InText};
 use integers::answer::BAD_FIELD_LIST;
 use integers::answer::TOO_LONG;
 use wire::text::NAME_LIMIT;
@@ -181,7 +181,7 @@ pub fn field_at(s: &[u8], at: usize) -> FieldPlace
 
 // The answer to a whole list: 0, or its first refusal.
 pub fn check_list(s: &[u8]) -> u8
-    ensures { λ r. ⌜ r ≡ listAnswer (readList (now (s .entry))) .number ⌝ }
+    ensures { λ r. ⌜ r ≡ fieldListAnswer (readFieldList (now (s .entry))) .number ⌝ }
 {
     let mut at: usize = 0;
     while at < s.len() {

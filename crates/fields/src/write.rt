@@ -3,7 +3,7 @@ ghost use mathlib.Core.Path.{_≡_};
 ghost use Prim.Native.Nat.{ℕ, _+_, _<_, _≤_};
 ghost use lib.ListN.{length};
 ghost use Rattle.memory.specs.Bytes.{overlay};
-ghost use Rattle.fields.specs.Form.{Field, Fine, lengthForm, textForm, fieldForm, textSize, fieldSize};
+ghost use Rattle.fields.specs.Form.{Field, FineField, lengthForm, textForm, fieldForm, textSize, fieldSize};
 use integers::integer::WireInt;
 use memory::copy::copy;
 

@@ -1,14 +1,14 @@
 // One recording: its lines, one after another, on two memories.
-use perform::line::Ran;
-use perform::line::run_line;
-use telling::tally::Tally;
-use telling::tell::bad_line;
-use telling::tell::long_line;
-use telling::tell::summary;
-use telling::tell::tell;
+use recorded_call::line::Ran;
+use recorded_call::line::run_line;
 use text_io::lines::Next;
 use text_io::lines::Reader;
 use text_io::lines::next_line;
+use transcript::tally::Tally;
+use transcript::tell::bad_line;
+use transcript::tell::long_line;
+use transcript::tell::summary;
+use transcript::tell::tell;
 
 pub fn run(fd: i32) {
     let mut input = io::large_buffer();

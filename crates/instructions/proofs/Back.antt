@@ -15,7 +15,7 @@ use Rattle.integers.proofs.Back.{int-back}
 use Rattle.integers.proofs.Lengths.{first-byte}
 use Rattle.wire.proofs.TextBack.{string-back, name-back}
 use Rattle.wire.proofs.ListBack.{list-back}
-use Rattle.instructions.specs.Instruction.{Instruction, insert, delete, acknowledge, FineIndex, Fine, instructionWire, Manages}
+use Rattle.instructions.specs.Instruction.{Instruction, insert, delete, acknowledge, FineIndex, FineInstruction, instructionWire, Manages}
 use Rattle.instructions.specs.Reading.{readIndex, readForDecoder, readForEncoder, instructionOf}
 use Rattle.instructions.specs.declared.read.IndexRead.the-variants.{Index}
 use Rattle.instructions.specs.declared.read.InstructionPlace.{InstructionPlace}
@@ -40,7 +40,7 @@ pub index-back : (s : List ℕ) (k t i : ℕ) → FineIndex i → Has s 0 (intWi
 index-back s k t i h p = index-found k s _ refl (record { value = i }) _ (int-back s k 0 t i (h .1) p) (h .0)
 
 module _ (s : List ℕ) where
-  insert-back : (i : ℕ) (name : Name) (value : List ℕ) → Fine (insert i name value) → Has s 0 (instructionWire (insert i name value))
+  insert-back : (i : ℕ) (name : Name) (value : List ℕ) → FineInstruction (insert i name value) → Has s 0 (instructionWire (insert i name value))
       → (p : InstructionPlace) × (readForDecoder s ≡ Found p (length (instructionWire (insert i name value))))
       × (instructionOf s p ≡ insert i name value)
   unfolding instructionWire
@@ -64,13 +64,13 @@ module _ (s : List ℕ) where
         rw (n .2, v .2) refl,
       )
 
-  delete-back : (i : ℕ) (plain trailer : StreamList) → Fine (delete i plain trailer) → Has s 0 (instructionWire (delete i plain trailer))
-      → (p : InstructionPlace) × (readForDecoder s ≡ Found p (length (instructionWire (delete i plain trailer))))
-      × (instructionOf s p ≡ delete i plain trailer)
+  delete-back : (i : ℕ) (nontrailer trailer : StreamList) → FineInstruction (delete i nontrailer trailer) → Has s 0 (instructionWire (delete i nontrailer trailer))
+      → (p : InstructionPlace) × (readForDecoder s ≡ Found p (length (instructionWire (delete i nontrailer trailer))))
+      × (instructionOf s p ≡ delete i nontrailer trailer)
   unfolding instructionWire
-  delete-back i plain trailer h p =
+  delete-back i nontrailer trailer h p =
       let xs : List ℕ = intWire 6 0 i in
-      let ys : List ℕ = listWire (plain .horizon) (plain .streams) in
+      let ys : List ℕ = listWire (nontrailer .horizon) (nontrailer .streams) in
       let zs : List ℕ = listWire (trailer .horizon) (trailer .streams) in
       let q : Has s 0 xs = has-left s 0 xs (ys ++ zs) p in
       let u : Has s (0 + length xs) (ys ++ zs) = has-right s 0 xs (ys ++ zs) p in
@@ -78,10 +78,10 @@ module _ (s : List ℕ) where
       let e = index-back s 6 0 i (h .0) q in
       let f = h .1 in
       let g = h .2 in
-      let n = list-back s (0 + length xs) (plain .horizon) (plain .streams) (f .0) (f .1) (f .2) (has-left s (0 + length xs) ys zs u) in
+      let n = list-back s (0 + length xs) (nontrailer .horizon) (nontrailer .streams) (f .0) (f .1) (f .2) (has-left s (0 + length xs) ys zs u) in
       let v = list-back s (0 + length xs + length ys) (trailer .horizon) (trailer .streams) (g .0) (g .1) (g .2) (has-right s (0 + length xs) ys zs u) in
-      let l : 0 + length xs + length ys + length zs ≡ length (instructionWire (delete i plain trailer)) =
-      omega (arith, delete-length i i refl (plain .horizon) (plain .streams) (trailer .horizon) (trailer .streams))
+      let l : 0 + length xs + length ys + length zs ≡ length (instructionWire (delete i nontrailer trailer)) =
+      omega (arith, delete-length i i refl (nontrailer .horizon) (nontrailer .streams) (trailer .horizon) (trailer .streams))
       in (
         Delete (record { value = i }) (n .0) (v .0),
         decoder-delete s (first .0) (first .2)
@@ -91,10 +91,10 @@ module _ (s : List ℕ) where
       )
 
   -- for the decoder, over an instruction that stands at the front
-  pub decoder-back : (i : Instruction) → Manages i → Fine i → Has s 0 (instructionWire i)
+  pub decoder-back : (i : Instruction) → Manages i → FineInstruction i → Has s 0 (instructionWire i)
       → (p : InstructionPlace) × (readForDecoder s ≡ Found p (length (instructionWire i))) × (instructionOf s p ≡ i)
   decoder-back (insert i name value) m = insert-back i name value
-  decoder-back (delete i plain trailer) m = delete-back i plain trailer
+  decoder-back (delete i nontrailer trailer) m = delete-back i nontrailer trailer
   decoder-back (acknowledge i) m = absurd m
 
   -- for the encoder
@@ -121,14 +121,14 @@ module _ (s : List ℕ) where
   encoder-other (insert i name value) m p =
       let first = first-byte s 7 0 128 i (has-left s 0 (intWire 7 128 i) (nameWire 8 0 name ++ stringWire value) p) in
       encoder-insert s (first .0) (first .1)
-  encoder-other (delete i plain trailer) m p =
-      let zs : List ℕ = listWire (plain .horizon) (plain .streams) ++ listWire (trailer .horizon) (trailer .streams) in
+  encoder-other (delete i nontrailer trailer) m p =
+      let zs : List ℕ = listWire (nontrailer .horizon) (nontrailer .streams) ++ listWire (trailer .horizon) (trailer .streams) in
       let first = first-byte s 6 0 0 i (has-left s 0 (intWire 6 0 i) zs p) in
       encoder-delete s (first .0) (first .2)
   encoder-other (acknowledge i) m p = absurd m
 
 -- the same of an instruction with other bytes behind
-pub decoder-front : (i : Instruction) (rest : List ℕ) → Manages i → Fine i
+pub decoder-front : (i : Instruction) (rest : List ℕ) → Manages i → FineInstruction i
     → (p : InstructionPlace) × (readForDecoder (instructionWire i ++ rest) ≡ Found p (length (instructionWire i)))
     × (instructionOf (instructionWire i ++ rest) p ≡ i)
 decoder-front i rest m h = decoder-back (instructionWire i ++ rest) i m h (has-front (instructionWire i) rest)

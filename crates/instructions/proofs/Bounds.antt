@@ -25,7 +25,7 @@ use Rattle.wire.specs.declared.stream_list.ListRead.the-variants.{Found as List
 use Rattle.integers.proofs.Bounds.{int-good}
 use Rattle.wire.proofs.TextBounds.{string-good, string-size, name-good}
 use Rattle.wire.proofs.ListBounds.{ListGood, list-good}
-use Rattle.instructions.specs.Instruction.{FineIndex, FineList, Fine, Manages}
+use Rattle.instructions.specs.Instruction.{FineIndex, FineList, FineInstruction, Manages}
 use Rattle.instructions.specs.Reading.{readIndex, readInsert, readDelete, readAcknowledgement, readForDecoder, readForEncoder, instructionOf, InBytes}
 use Rattle.instructions.specs.declared.read.IndexRead.{IndexRead}
 use Rattle.instructions.specs.declared.read.IndexRead.the-variants.{Index, Refused as IndexRefused}
@@ -42,7 +42,7 @@ use Rattle.instructions.proofs.Equations.{
   insert-value-refused,
   insert-found,
   delete-refused,
-  delete-plain-refused,
+  delete-nontrailer-refused,
   delete-trailer-refused,
   delete-found,
   acknowledgement-refused,
@@ -63,7 +63,7 @@ pub record ForDecoder (s : List ℕ) (p : InstructionPlace) (taken : ℕ) : Type
   pub inside : taken ≤ length s
   pub short : taken ≤ 2322
   pub kind : Manages (instructionOf s p)
-  pub fine : Fine (instructionOf s p)
+  pub fine : FineInstruction (instructionOf s p)
   pub bytes : InBytes s p
 
 -- what the encoder's reader can find
@@ -137,26 +137,26 @@ module _ (s : List ℕ) where
 
   of-delete : (r : IndexRead) → r ≡ readIndex 6 s → OfDecoder s (readDelete s)
   of-delete (IndexRefused number) e = rw (delete-refused s _ e number refl) tt
-  of-delete (Index i next) e = plains (readList s next) refl
+  of-delete (Index i next) e = nontrailers (readList s next) refl
     where
-      plains : (l : ListRead) → l ≡ readList s next → OfDecoder s (readDelete s)
-      plains (ListRefused number) f = rw (delete-plain-refused s _ e i next refl _ f number refl) tt
-      plains (ListFound plain after) f = trailers (readList s after) refl
+      nontrailers : (l : ListRead) → l ≡ readList s next → OfDecoder s (readDelete s)
+      nontrailers (ListRefused number) f = rw (delete-nontrailer-refused s _ e i next refl _ f number refl) tt
+      nontrailers (ListFound nontrailer after) f = trailers (readList s after) refl
         where
           trailers : (m : ListRead) → m ≡ readList s after → OfDecoder s (readDelete s)
-          trailers (ListRefused number) h = rw (delete-trailer-refused s _ e i next refl _ f plain after refl _ h number refl) tt
+          trailers (ListRefused number) h = rw (delete-trailer-refused s _ e i next refl _ f nontrailer after refl _ h number refl) tt
           trailers (ListFound trailer taken) h =
               let a = index-good 6 s (omega arith) i next (sym e) in
-              let b = list-good s next plain after (sym f) in
+              let b = list-good s next nontrailer after (sym f) in
               let g = list-good s after trailer taken (sym h) in
-              rw (delete-found s _ e i next refl _ f plain after refl _ h trailer taken refl)
+              rw (delete-found s _ e i next refl _ f nontrailer after refl _ h trailer taken refl)
               (record {
                 some = omega (arith, g .past, g .order);
                 inside = g .within;
                 short = omega (arith, a .2, b .close, g .close);
                 kind = tt;
-                fine = (a .3, fine-list s next plain after b, fine-list s after trailer taken g);
-                bytes = (in-list s next plain after b, in-list s after trailer taken g);
+                fine = (a .3, fine-list s next nontrailer after b, fine-list s after trailer taken g);
+                bytes = (in-list s next nontrailer after b, in-list s after trailer taken g);
               })
 
   of-acknowledgement : (r : IndexRead) → r ≡ readIndex 6 s → OfEncoder s (readAcknowledgement s)

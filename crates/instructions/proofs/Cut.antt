@@ -9,7 +9,7 @@ use Rattle.memory.proofs.Order.{split}
 use Rattle.memory.proofs.Places.{has-all}
 use Rattle.memory.specs.Bytes.{Has}
 use Rattle.integers.proofs.Kept.{Kept}
-use Rattle.instructions.specs.Instruction.{Instruction, acknowledge, FineIndex, Fine, instructionWire, Manages}
+use Rattle.instructions.specs.Instruction.{Instruction, acknowledge, FineIndex, FineInstruction, instructionWire, Manages}
 use Rattle.instructions.specs.Reading.{readForDecoder, readForEncoder}
 use Rattle.instructions.specs.declared.read.InstructionPlace.{InstructionPlace}
 use Rattle.instructions.specs.declared.read.InstructionRead.{InstructionRead}
@@ -35,7 +35,7 @@ cut (Refused m) q k n b p taken e l =
         absurd (omega arith)
 
 module _ (xs ys : List ℕ) (more : 0 < length ys) where
-  pub decoder-cut : (i : Instruction) → Manages i → Fine i → instructionWire i ≡ xs ++ ys → readForDecoder xs ≡ Refused 2
+  pub decoder-cut : (i : Instruction) → Manages i → FineInstruction i → instructionWire i ≡ xs ++ ys → readForDecoder xs ≡ Refused 2
   decoder-cut i m f e =
       let p : Has (xs ++ ys) 0 (instructionWire i) = rw e (has-all (xs ++ ys)) in
       let b = decoder-back (xs ++ ys) i m f p in

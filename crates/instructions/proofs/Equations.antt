@@ -71,16 +71,16 @@ module _ (s : List ℕ) (r : IndexRead) (e : r ≡ readIndex 6 s) where
   delete-refused number d = simp (← e, d)
 
   module _ (i : TableIndex) (next : ℕ) (d : r ≡ Index i next) (l : ListRead) (f : l ≡ readList s next) where
-    pub delete-plain-refused : (number : ℕ) → l ≡ ListRefused number → readDelete s ≡ Refused number
+    pub delete-nontrailer-refused : (number : ℕ) → l ≡ ListRefused number → readDelete s ≡ Refused number
     unfolding readDelete
-    delete-plain-refused number g = simp (← e, d, ← f, g)
+    delete-nontrailer-refused number g = simp (← e, d, ← f, g)
 
-    module _ (plain : ListPlace) (after : ℕ) (g : l ≡ ListFound plain after) (m : ListRead) (h : m ≡ readList s after) where
+    module _ (nontrailer : ListPlace) (after : ℕ) (g : l ≡ ListFound nontrailer after) (m : ListRead) (h : m ≡ readList s after) where
       pub delete-trailer-refused : (number : ℕ) → m ≡ ListRefused number → readDelete s ≡ Refused number
       unfolding readDelete
       delete-trailer-refused number k = simp (← e, d, ← f, g, ← h, k)
 
-      pub delete-found : (trailer : ListPlace) (taken : ℕ) → m ≡ ListFound trailer taken → readDelete s ≡ Found (Delete i plain trailer) taken
+      pub delete-found : (trailer : ListPlace) (taken : ℕ) → m ≡ ListFound trailer taken → readDelete s ≡ Found (Delete i nontrailer trailer) taken
       unfolding readDelete
       delete-found trailer taken k = simp (← e, d, ← f, g, ← h, k)
 

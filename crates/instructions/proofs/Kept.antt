@@ -63,9 +63,9 @@ module _ (s t : List ℕ) where
   unfolding readDelete
   delete-kept =
       kept-on-index instructionNumber Refused refl (readIndex 6 s) (readIndex 6 (s ++ t)) (index-kept 6) (λ i next e.
-      kept-on-list instructionNumber Refused refl (readList s next) (readList (s ++ t) next) (list-kept s t next) (λ plain after f.
+      kept-on-list instructionNumber Refused refl (readList s next) (readList (s ++ t) next) (list-kept s t next) (λ nontrailer after f.
       kept-on-list instructionNumber Refused refl (readList s after) (readList (s ++ t) after) (list-kept s t after) (λ trailer taken g.
-      kept-same instructionNumber (Found (Delete i plain trailer) taken))))
+      kept-same instructionNumber (Found (Delete i nontrailer trailer) taken))))
 
   pub acknowledgement-kept : Kept instructionNumber (readAcknowledgement s) (readAcknowledgement (s ++ t))
   unfolding readAcknowledgement
@@ -98,7 +98,7 @@ module _ (s t : List ℕ) where
   pub instruction-of-kept : (p : InstructionPlace) → InBytes s p → instructionOf (s ++ t) p ≡ instructionOf s p
   instruction-of-kept (Insert i name value) g =
       ap₂ (insert (i .value)) (name-of-kept s t name (g .0)) (string-bytes-kept s value t (g .1))
-  instruction-of-kept (Delete i plain trailer) g = ap₂ (delete (i .value)) (list-of-kept plain (g .0)) (list-of-kept trailer (g .1))
+  instruction-of-kept (Delete i nontrailer trailer) g = ap₂ (delete (i .value)) (list-of-kept nontrailer (g .0)) (list-of-kept trailer (g .1))
   instruction-of-kept (Acknowledge i) g = refl
 
   -- an instruction that was read is read the same, and says the same

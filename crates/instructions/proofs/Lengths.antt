@@ -13,7 +13,7 @@ use Rattle.wire.specs.Name.{Name, FineName, nameWire}
 use Rattle.wire.specs.StreamList.{StreamList, Fits, deltasWire, listWire}
 use Rattle.wire.proofs.TextWriting.{string-length-wire, index-wire, literal-length-wire}
 use Rattle.wire.proofs.ListBack.{list-size}
-use Rattle.instructions.specs.Instruction.{Instruction, insert, delete, acknowledge, FineList, Fine, instructionWire}
+use Rattle.instructions.specs.Instruction.{Instruction, insert, delete, acknowledge, FineList, FineInstruction, instructionWire}
 use Rattle.instructions.proofs.Writing.{acknowledge-wire, insert-length, delete-length}
 
 pub acknowledge-length : (i : ℕ) → (1 ≤ length (instructionWire (acknowledge i))) × (length (instructionWire (acknowledge i)) ≤ 5)
@@ -29,8 +29,8 @@ acknowledge-two i h = rw (acknowledge-wire i i refl) (int-within 6 64 i 0 (omega
 -- no instruction is empty
 pub instruction-some : (i : Instruction) → 1 ≤ length (instructionWire i)
 instruction-some (insert i name value) = omega (arith, insert-length i i refl name value, int-length 7 128 i)
-instruction-some (delete i plain trailer) =
-    omega (arith, delete-length i i refl (plain .horizon) (plain .streams) (trailer .horizon) (trailer .streams), int-length 6 0 i)
+instruction-some (delete i nontrailer trailer) =
+    omega (arith, delete-length i i refl (nontrailer .horizon) (nontrailer .streams) (trailer .horizon) (trailer .streams), int-length 6 0 i)
 instruction-some (acknowledge i) = acknowledge-length i .0
 
 -- an insert has at most 2,314 bytes, a delete 109
@@ -39,18 +39,18 @@ name-size (Name.indexed i) f = omega (arith, ap length (index-wire 8 0 i), int-l
 name-size (Name.literal xs) f =
     omega (arith, literal-length-wire 8 0 xs, int-one 8 0 0 (omega arith), string-length-wire xs, int-within 7 0 (length xs) 1 (omega arith))
 
-pub insert-size : (i : ℕ) (name : Name) (value : List ℕ) → Fine (insert i name value) → length (instructionWire (insert i name value)) ≤ 2314
+pub insert-size : (i : ℕ) (name : Name) (value : List ℕ) → FineInstruction (insert i name value) → length (instructionWire (insert i name value)) ≤ 2314
 insert-size i name value f =
     let v = int-within 7 0 (length value) 1 (omega arith) in
     omega (arith, insert-length i i refl name value, int-length 7 128 i, name-size name (f .1), string-length-wire value)
 
-pub delete-size : (i : ℕ) (plain trailer : StreamList) → Fine (delete i plain trailer) → length (instructionWire (delete i plain trailer)) ≤ 109
-delete-size i plain trailer f =
+pub delete-size : (i : ℕ) (nontrailer trailer : StreamList) → FineInstruction (delete i nontrailer trailer) → length (instructionWire (delete i nontrailer trailer)) ≤ 109
+delete-size i nontrailer trailer f =
     omega (
       arith,
-      delete-length i i refl (plain .horizon) (plain .streams) (trailer .horizon) (trailer .streams),
+      delete-length i i refl (nontrailer .horizon) (nontrailer .streams) (trailer .horizon) (trailer .streams),
       int-length 6 0 i,
-      list-size (plain .horizon) (plain .streams) (f .1 .0) (f .1 .1) (f .1 .2),
+      list-size (nontrailer .horizon) (nontrailer .streams) (f .1 .0) (f .1 .1) (f .1 .2),
       list-size (trailer .horizon) (trailer .streams) (f .2 .0) (f .2 .1) (f .2 .2),
     )
 
@@ -90,17 +90,17 @@ list-small l f =
 -- the strings of an instruction are bytes
 abbrev pub SmallText : Instruction → Type 0
 SmallText (insert i name value) = SmallName name × Small value
-SmallText (delete i plain trailer) = Unit {0}
+SmallText (delete i nontrailer trailer) = Unit {0}
 SmallText (acknowledge i) = Unit {0}
 
-pub instruction-small : (i : Instruction) → Fine i → SmallText i → Small (instructionWire i)
+pub instruction-small : (i : Instruction) → FineInstruction i → SmallText i → Small (instructionWire i)
 unfolding instructionWire
 instruction-small (insert i name value) f h =
     small-append (intWire 7 128 i) (nameWire 8 0 name ++ stringWire value) (int-bytes-small 7 128 i (omega arith) (f .0 .1))
     (small-append (nameWire 8 0 name) (stringWire value) (name-small name (f .1) (h .0)) (string-small value (f .2) (h .1)))
-instruction-small (delete i plain trailer) f h =
-    let xs = listWire (plain .horizon) (plain .streams) in
+instruction-small (delete i nontrailer trailer) f h =
+    let xs = listWire (nontrailer .horizon) (nontrailer .streams) in
     let ys = listWire (trailer .horizon) (trailer .streams) in
     small-append (intWire 6 0 i) (xs ++ ys) (int-bytes-small 6 0 i (omega arith) (f .0 .1))
-    (small-append xs ys (list-small plain (f .1)) (list-small trailer (f .2)))
+    (small-append xs ys (list-small nontrailer (f .1)) (list-small trailer (f .2)))
 instruction-small (acknowledge i) f h = int-bytes-small 6 64 i (omega arith) (f .1)

@@ -73,7 +73,7 @@ module _ (s : List ℕ) where
   delete-told =
       told-on-index decoderRefusals tt (readIndex 6 s) (index-told 6)
       (λ i next. told-on-list DecoderTold Refused (wider decoderRefusals listRefusals tt) (readList s next) (list-told s next)
-      (λ plain after. told-on-list DecoderTold Refused (wider decoderRefusals listRefusals tt) (readList s after) (list-told s after)
+      (λ nontrailer after. told-on-list DecoderTold Refused (wider decoderRefusals listRefusals tt) (readList s after) (list-told s after)
       (λ trailer taken. record { told = tt })))
 
   acknowledgement-told : Told EncoderTold (readAcknowledgement s)

@@ -24,21 +24,21 @@ abbrev pub FineList : StreamList → Type 0
 FineList l = (l .horizon ≤ 4096) × (length (l .streams) ≤ 16) × Fits (l .horizon) (l .streams)
 
 -- what can be said on the wire
-abbrev pub Fine : Instruction → Type 0
-Fine (insert i name value) = FineIndex i × FineName name × (length value ≤ 2047)
-Fine (delete i plain trailer) = FineIndex i × FineList plain × FineList trailer
-Fine (acknowledge i) = FineIndex i
+abbrev pub FineInstruction : Instruction → Type 0
+FineInstruction (insert i name value) = FineIndex i × FineName name × (length value ≤ 2047)
+FineInstruction (delete i nontrailer trailer) = FineIndex i × FineList nontrailer × FineList trailer
+FineInstruction (acknowledge i) = FineIndex i
 
 -- what the management stream carries to the decoder: an insert or a delete
 abbrev pub Manages : Instruction → Type 0
 Manages (insert i name value) = Unit {0}
-Manages (delete i plain trailer) = Unit {0}
+Manages (delete i nontrailer trailer) = Unit {0}
 Manages (acknowledge i) = ⊥
 
 -- insert: "bit 1, new index (7-bit prefix), name index (8-bit prefix; 0 means a name string follows), value string".
 -- delete: "bits 00, index (6-bit prefix), then a stream list .. and one ..". Delete-Ack: "bits 01, index (6-bit prefix)".
 unfoldable pub instructionWire : Instruction → List ℕ
 instructionWire (insert i name value) = intWire 7 128 i ++ (nameWire 8 0 name ++ stringWire value)
-instructionWire (delete i plain trailer) =
-    intWire 6 0 i ++ (listWire (plain .horizon) (plain .streams) ++ listWire (trailer .horizon) (trailer .streams))
+instructionWire (delete i nontrailer trailer) =
+    intWire 6 0 i ++ (listWire (nontrailer .horizon) (nontrailer .streams) ++ listWire (trailer .horizon) (trailer .streams))
 instructionWire (acknowledge i) = intWire 6 64 i

@@ -6,7 +6,7 @@ use lib.Dec.{ltb, leb}
 use Rattle.memory.specs.Choice.{pick, need}
 use Rattle.integers.specs.Answers.{Answer, done, refusal, truncated, not-allowed}
 use Rattle.integers.specs.Integer.{readInt, onInt}
-use Rattle.wire.specs.Text.{readString, onString, stringBytes, valueLimit, InText, stringLength}
+use Rattle.wire.specs.Text.{readString, onString, stringBytes, valueLimit, InString, stringLength}
 use Rattle.wire.specs.Name.{readName, onName, nameOf, GoodName}
 use Rattle.wire.specs.StreamList.{readList, onList, listOf, InList}
 use Rattle.integers.specs.declared.number.TableIndex.{TableIndex}
@@ -53,9 +53,9 @@ readInsert s =
 unfoldable pub readDelete : List ℕ → InstructionRead
 readDelete s =
     onIndex Refused (readIndex 6 s) (λ i next.
-    onList Refused (readList s next) (λ plain after.
+    onList Refused (readList s next) (λ nontrailer after.
     onList Refused (readList s after) (λ trailer taken.
-    Found (Delete i plain trailer) taken)))
+    Found (Delete i nontrailer trailer) taken)))
 
 unfoldable pub readAcknowledgement : List ℕ → InstructionRead
 readAcknowledgement s = onIndex Refused (readIndex 6 s) (λ i taken. Found (Acknowledge i) taken)
@@ -79,11 +79,11 @@ readForEncoder s =
 -- the instruction that stands at a place of s
 abbrev pub instructionOf : List ℕ → InstructionPlace → Instruction
 instructionOf s (Insert i name value) = insert (i .value) (nameOf s name) (stringBytes s value)
-instructionOf s (Delete i plain trailer) = delete (i .value) (listOf s plain) (listOf s trailer)
+instructionOf s (Delete i nontrailer trailer) = delete (i .value) (listOf s nontrailer) (listOf s trailer)
 instructionOf s (Acknowledge i) = acknowledge (i .value)
 
 -- the instruction's strings and lists lie in s, so that they can be copied from it
 abbrev pub InBytes : List ℕ → InstructionPlace → Type 0
-InBytes s (Insert i name value) = GoodName s name × InText s value × (stringLength s value ≤ valueLimit)
-InBytes s (Delete i plain trailer) = InList s plain × InList s trailer
+InBytes s (Insert i name value) = GoodName s name × InString s value × (stringLength s value ≤ valueLimit)
+InBytes s (Delete i nontrailer trailer) = InList s nontrailer × InList s trailer
 InBytes s (Acknowledge i) = Unit {0}

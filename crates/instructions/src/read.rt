@@ -107,14 +107,14 @@ fn read_delete(s: &[u8]) -> InstructionRead
         return InstructionRead::Refused(r.number());
     };
     let p = read_list(s, next);
-    let ListRead::Found(plain, after) = p else {
+    let ListRead::Found(nontrailer, after) = p else {
         return InstructionRead::Refused(p.number());
     };
     let t = read_list(s, after);
     let ListRead::Found(trailer, taken) = t else {
         return InstructionRead::Refused(t.number());
     };
-    InstructionRead::Found(InstructionPlace::Delete(index, plain, trailer), taken)
+    InstructionRead::Found(InstructionPlace::Delete(index, nontrailer, trailer), taken)
 }
 
 fn read_acknowledgement(s: &[u8]) -> InstructionRead

@@ -5,7 +5,7 @@ ghost use mathlib.Core.List.{[]};
 ghost use lib.ListN.{length};
 ghost use Rattle.memory.specs.Bytes.{overlay};
 ghost use Rattle.wire.specs.Name.{Name};
-ghost use Rattle.instructions.specs.Instruction.{Instruction, Fine, instructionWire};
+ghost use Rattle.instructions.specs.Instruction.{Instruction, FineInstruction, instructionWire};
 use integers::integer::WireInt;
 use integers::number::TableIndex;
 use wire::name::write_name_index;
@@ -28,7 +28,7 @@ pub fn write_insert_index(
     out: &mut [u8],
     at: usize,
 ) -> usize
-    requires { ⌜ Fine (Instruction.insert (index .value) (Name.indexed (name .value)) (now value)) ⌝ }
+    requires { ⌜ FineInstruction (Instruction.insert (index .value) (Name.indexed (name .value)) (now value)) ⌝ }
     requires { ⌜ at + length (instructionWire (Instruction.insert (index .value) (Name.indexed (name .value)) (now value))) ≤ length (now out) ⌝ }
     ensures { λ r. ⌜ r ≡ at + length (instructionWire (Instruction.insert (index .value) (Name.indexed (name .value)) (now (value .entry)))) ⌝ }
     ensures { λ _. ⌜ now (out .exit) ≡ overlay (now (out .entry)) at (instructionWire (Instruction.insert (index .value) (Name.indexed (name .value)) (now (value .entry)))) ⌝ }
@@ -47,7 +47,7 @@ pub fn write_insert_text(
     out: &mut [u8],
     at: usize,
 ) -> usize
-    requires { ⌜ Fine (Instruction.insert (index .value) (Name.literal (now name)) (now value)) ⌝ }
+    requires { ⌜ FineInstruction (Instruction.insert (index .value) (Name.literal (now name)) (now value)) ⌝ }
     requires { ⌜ at + length (instructionWire (Instruction.insert (index .value) (Name.literal (now name)) (now value))) ≤ length (now out) ⌝ }
     ensures { λ r. ⌜ r ≡ at + length (instructionWire (Instruction.insert (index .value) (Name.literal (now (name .entry))) (now (value .entry)))) ⌝ }
     ensures { λ _. ⌜ now (out .exit) ≡ overlay (now (out .entry)) at (instructionWire (Instruction.insert (index .value) (Name.literal (now (name .entry))) (now (value .entry)))) ⌝ }
@@ -68,7 +68,7 @@ pub fn write_delete(
     out: &mut [u8],
     at: usize,
 ) -> usize
-    requires { ⌜ Fine (Instruction.delete (index .value) (record { horizon = horizon; streams = now streams }) (record { horizon = «trailer_horizon»; streams = now «trailer_streams» })) ⌝ }
+    requires { ⌜ FineInstruction (Instruction.delete (index .value) (record { horizon = horizon; streams = now streams }) (record { horizon = «trailer_horizon»; streams = now «trailer_streams» })) ⌝ }
     requires { ⌜ at + length (instructionWire (Instruction.delete (index .value) (record { horizon = horizon; streams = now streams }) (record { horizon = «trailer_horizon»; streams = now «trailer_streams» }))) ≤ length (now out) ⌝ }
     ensures { λ r. ⌜ r ≡ at + length (instructionWire (Instruction.delete (index .value) (record { horizon = horizon; streams = now (streams .entry) }) (record { horizon = «trailer_horizon»; streams = now («trailer_streams» .entry) }))) ⌝ }
     ensures { λ _. ⌜ now (out .exit) ≡ overlay (now (out .entry)) at (instructionWire (Instruction.delete (index .value) (record { horizon = horizon; streams = now (streams .entry) }) (record { horizon = «trailer_horizon»; streams = now («trailer_streams» .entry) }))) ⌝ }
@@ -81,7 +81,7 @@ pub fn write_delete(
 
 // The acknowledgement of a delete.
 pub fn write_acknowledgement(index: TableIndex, out: &mut [u8], at: usize) -> usize
-    requires { ⌜ Fine (Instruction.acknowledge (index .value)) ⌝ }
+    requires { ⌜ FineInstruction (Instruction.acknowledge (index .value)) ⌝ }
     requires { ⌜ at + length (instructionWire (Instruction.acknowledge (index .value))) ≤ length (now out) ⌝ }
     ensures { λ r. ⌜ r ≡ at + length (instructionWire (Instruction.acknowledge (index .value))) ⌝ }
     ensures { λ _. ⌜ now (out .exit) ≡ overlay (now (out .entry)) at (instructionWire (Instruction.acknowledge (index .value))) ⌝ }

@@ -11,7 +11,7 @@ use Rattle.memory.proofs.Order.{need-both}
 use Rattle.integers.specs.Answers.{full}
 use Rattle.integers.specs.Integer.{largest}
 use Rattle.fields.specs.Form.{Field}
-use Rattle.fields.specs.Reading.{ListRead, list, readList}
+use Rattle.fields.specs.Reading.{FieldListRead, list, readFieldList}
 use Rattle.fields.specs.Reading as reading
 use Rattle.instructions.specs.Instruction.{insert, instructionWire}
 use Rattle.instructions.specs.Reading.{readForEncoder, onInstruction}
@@ -96,12 +96,12 @@ pub encoder-block : (m : List ℕ) (stream part : ℕ) (s out : List ℕ) → Na
 unfolding blockCall stepped
 encoder-block m stream part s out =
     call (formsEncoder m) _ _ _ _
-    (call (partTurn (encoderOf m .written) stream (partOf part)) _ _ _ _ (go (readList s)))
+    (call (partTurn (encoderOf m .written) stream (partOf part)) _ _ _ _ (go (readFieldList s)))
   where
-    go : (r : ListRead) → Narrow (onList (refused m out) r
+    go : (r : FieldListRead) → Narrow (onList (refused m out) r
         (λ fs. stepped overlayEncoder m out (encodeBlock (encoderOf m) stream part fs (length out))) .answer)
     go (list fs) = block-narrow (encoderOf m) stream part fs (length out)
-    go (reading.ListRead.refused number) = omega arith
+    go (reading.FieldListRead.refused number) = omega arith
 
 pub encoder-acknowledge : (m s : List ℕ) → Narrow (acknowledgeCall m s .answer)
 unfolding acknowledgeCall stepped
@@ -109,7 +109,7 @@ encoder-acknowledge m s = call (formsEncoder m) _ _ _ _ (go (readForEncoder s))
   where
     free : (p : InstructionPlace) (taken : ℕ) → Narrow (acknowledged m p taken .answer)
     free (Insert i name value) taken = omega arith
-    free (Delete i plain last) taken = omega arith
+    free (Delete i first last) taken = omega arith
     free (Acknowledge i) taken = free-narrow (encoderOf m) (i .value) taken
 
     go : (r : InstructionRead) → Narrow (onInstruction (refused m []) r (acknowledged m) .answer)

@@ -48,11 +48,11 @@ unfolding referencesOver referenceOver
 references-beyond [] m fine = refl
 references-beyond (e ∷ es) m fine =
     let at : ℕ = referencePlace (e .index) in
-    let plain : List ℕ = numberBytes 2 (e .plain) in
+    let nontrailer : List ℕ = numberBytes 2 (e .nontrailer) in
     let high = fine .0 .high in
     references-beyond es (referenceOver e m) (fine .1)
-    ∙ drop-overlay (overlay m at plain) (at + 38) (numberBytes 2 (e .trailer)) encoderLength (omega (arith, length-numberBytes 2 (e .trailer)))
-    ∙ drop-overlay m at plain encoderLength (omega (arith, length-numberBytes 2 (e .plain)))
+    ∙ drop-overlay (overlay m at nontrailer) (at + 38) (numberBytes 2 (e .trailer)) encoderLength (omega (arith, length-numberBytes 2 (e .trailer)))
+    ∙ drop-overlay m at nontrailer encoderLength (omega (arith, length-numberBytes 2 (e .nontrailer)))
 
 pub encoder-beyond : (E : Encoder) (m : List ℕ) → FitsEncoder E → drop encoderLength (overlayEncoder E m) ≡ drop encoderLength m
 unfolding overlayEncoder

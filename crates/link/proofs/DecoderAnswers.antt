@@ -76,7 +76,7 @@ module _ (D : Decoder) (s : List ℕ) (taken : ℕ) (inside : taken ≤ length s
   read-says : (i : Instruction) → Says (reading s) (readInstruction D i taken)
   unfolding readInstruction deleteEntry
   read-says (insert i name value) = insert-says i value (nameBytes (lookup D) name)
-  read-says (delete i plain trailer) =
+  read-says (delete i nontrailer trailer) =
       refusing (reading s) D (isSome (look heldIndex i (D .entries))) vacant tt
       (λ e. refusing (reading s) D (not (isSome (deleteOf D i))) under-deletion tt (λ f. took _))
   read-says (acknowledge i) = refusal-says (reading s) D not-allowed tt

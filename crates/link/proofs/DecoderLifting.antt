@@ -59,7 +59,7 @@ name-bytes s b (Text p) = string-bytes s b p
 
 place-bytes : (s : List ℕ) → Small s → (p : InstructionPlace) → SmallText (instructionOf s p)
 place-bytes s b (Insert i name value) = (name-bytes s b name, string-bytes s b value)
-place-bytes s b (Delete i plain trailer) = tt
+place-bytes s b (Delete i nontrailer trailer) = tt
 place-bytes s b (Acknowledge i) = tt
 
 -- what the reader of instructions can give

@@ -15,10 +15,10 @@ use Rattle.integers.specs.Answers.{not-allowed, over-limit, vacant, under-delet
 use Rattle.integers.specs.Integer.{largest}
 use Rattle.integers.proofs.Told.{One}
 use Rattle.fields.specs.Form.{Field}
-use Rattle.fields.specs.Reading.{ListRead, readList}
+use Rattle.fields.specs.Reading.{FieldListRead, readFieldList}
 use Rattle.fields.specs.Reading as lists
 use Rattle.fields.proofs.Walk.{list-number}
-use Rattle.instructions.specs.Instruction.{insert, Fine, instructionWire}
+use Rattle.instructions.specs.Instruction.{insert, FineInstruction, instructionWire}
 use Rattle.instructions.specs.Reading.{readForEncoder, onInstruction}
 use Rattle.instructions.specs.declared.read.InstructionPlace.the-variants.{Insert, Delete, Acknowledge}
 use Rattle.instructions.specs.declared.read.InstructionRead.{InstructionRead}
@@ -81,11 +81,11 @@ module _ (E : Encoder) (F : FormsEncoder E) where
   delete-says i out none d = refusal-says (deleting i out) E vacant tt
   delete-says i out (some e) d =
       let x = F .entries i e d in
-      let fine : Fine (deleteOfSent e) = ((x .low, omega (arith, x .high)), (x .plain, omega arith, tt), (x .trailer, omega arith, tt)) in
+      let fine : FineInstruction (deleteOfSent e) = ((x .low, omega (arith, x .high)), (x .nontrailer, omega arith, tt), (x .trailer, omega arith, tt)) in
       refusing (deleting i out) E (not (e .deleted)) under-deletion tt
       (λ f. refusing (deleting i out) E (leb (length (instructionWire (deleteOfSent e))) (length out)) no-room tt
       (λ g. first-says (deleting i out) _ (length (instructionWire (deleteOfSent e))) (instruction (deleteOfSent e)) refl refl (leb-true _ _ g)
-      (omega (arith, delete-size (e .index) (emptyList (e .plain)) (emptyList (e .trailer)) fine))))
+      (omega (arith, delete-size (e .index) (emptyList (e .nontrailer)) (emptyList (e .trailer)) fine))))
 
 -- ---- a block: its bytes are told
 
@@ -106,7 +106,7 @@ module _ (E : Encoder) (stream part : ℕ) (s out : List ℕ) where
       (λ e. refusing (encoding stream part s out) E (inTurn (E .written) stream p) out-of-turn tt
       (λ f. write-says p (map (choose (E .entries)) fs)))
 
-  list-refused : (number : ℕ) → readList s ≡ lists.ListRead.refused number → One (bad-field-list ∷ too-long ∷ []) number
+  list-refused : (number : ℕ) → readFieldList s ≡ lists.FieldListRead.refused number → One (bad-field-list ∷ too-long ∷ []) number
   list-refused number e = ⊎-elim (λ d. rw d tt) (λ d. rw d tt) (list-number s (length s) 0 [] number e)
 
 -- ---- an acknowledgement that was read: the bytes taken are told
@@ -129,18 +129,18 @@ encoder-says E F (calls.EncoderCall.delete i out) =
     (λ e. refusing (deleting i out) E (leb i largest) not-allowed tt (λ f. delete-says E F i out (look sentIndex i (E .entries)) refl))
 encoder-says E F (calls.EncoderCall.block stream part s out) =
     pick-both (λ (x : at-encoder.EncoderCall). Says (encoding stream part s out) (encoderCall E x)) (partTurn (E .written) stream (partOf part)) _
-    (at-encoder.unread out-of-turn) (λ e. go (readList s) refl) (λ e. refusal-says (encoding stream part s out) E out-of-turn tt)
+    (at-encoder.unread out-of-turn) (λ e. go (readFieldList s) refl) (λ e. refusal-says (encoding stream part s out) E out-of-turn tt)
   where
-    go : (r : ListRead) → readList s ≡ r → Says (encoding stream part s out) (encoderCall E (readListCall stream part (length out) r))
-    go (lists.ListRead.list fs) e = part-says E stream part s out (partOf part) fs
-    go (lists.ListRead.refused number) e =
+    go : (r : FieldListRead) → readFieldList s ≡ r → Says (encoding stream part s out) (encoderCall E (readListCall stream part (length out) r))
+    go (lists.FieldListRead.list fs) e = part-says E stream part s out (partOf part) fs
+    go (lists.FieldListRead.refused number) e =
         unread-says (encoding stream part s out) E (bad-field-list ∷ too-long ∷ []) tt number (list-refused E stream part s out number e)
 encoder-says E F (calls.EncoderCall.acknowledge s) = go (readForEncoder s) refl (encoder-told s .told)
   where
     go : (r : InstructionRead) → readForEncoder s ≡ r → InstructionTold encoderRefusals r
         → Says (acknowledging s) (encoderCall E (onInstruction at-encoder.unread r acknowledgedCall))
     go (Found (Insert i name value) taken) e t = refusal-says (acknowledging s) E not-allowed tt
-    go (Found (Delete i plain trailer) taken) e t = refusal-says (acknowledging s) E not-allowed tt
+    go (Found (Delete i nontrailer trailer) taken) e t = refusal-says (acknowledging s) E not-allowed tt
     go (Found (Acknowledge i) taken) e t =
         let g = encoder-good s (Acknowledge i) taken e in freed-says E s taken (g .inside) (g .short) (look sentIndex (i .value) (E .entries))
     go (Refused number) e t = unread-says (acknowledging s) E encoderRefusals tt number t

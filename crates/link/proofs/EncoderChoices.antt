@@ -19,7 +19,7 @@ use Rattle.statics.specs.declared.search.StaticFound.{StaticFound}
 use Rattle.statics.specs.declared.search.StaticFound.the-variants.{At, Nothing}
 use Rattle.statics.proofs.Finding.{name-found, name-nothing, both-found, both-nothing}
 use Rattle.statics.proofs.Finding as finding
-use Rattle.fields.specs.Form.{Field, Fine, AllFine}
+use Rattle.fields.specs.Form.{Field, FineField, AllFine}
 use Rattle.blocks.specs.Representation as representation
 use Rattle.blocks.specs.Meaning.{holds}
 use Rattle.model.specs.Table.{Ascending, look, lowest}
@@ -164,7 +164,7 @@ module _ (hs : List Happened) (l : List Sent) (order : Ascending sentIndex 62 l)
           dynamic-written z (lowest sentIndex both l) refl,
         )
 
-    written-for : Fine f → WrittenFor hs f (choose l f)
+    written-for : FineField f → WrittenFor hs f (choose l f)
     unfolding choose
     written-for fine =
         pick-both (WrittenFor hs f) (eqb (f .flag) 1) _ _

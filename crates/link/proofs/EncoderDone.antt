@@ -13,7 +13,7 @@ use Rattle.memory.specs.Choice.{pick}
 use Rattle.memory.specs.Bytes.{Small, overlay}
 use Rattle.integers.specs.Answers.{Answer, out-of-turn}
 use Rattle.fields.specs.Form.{Field, AllFine}
-use Rattle.fields.specs.Reading.{ListRead, readList}
+use Rattle.fields.specs.Reading.{FieldListRead, readFieldList}
 use Rattle.fields.specs.Reading as lists
 use Rattle.fields.proofs.Lists.{list-forth}
 use Rattle.fields.proofs.Walk.{list-number}
@@ -116,19 +116,19 @@ module _ (m : List ℕ) (E : Encoder) (S : StandsEncoder m E) where
   -- a block that was written, by its turn and the reading of its list
   module _ (stream part : ℕ) (s out : List ℕ) (small : Small s) (r : Result) where
     abbrev Written : Type 0
-    Written = (fs : List Field) × (readList s ≡ lists.ListRead.list fs) × AllFine fs × (readBlock (doneBytes r) ≡ block (map (choose (E .entries)) fs))
+    Written = (fs : List Field) × (readFieldList s ≡ lists.FieldListRead.list fs) × AllFine fs × (readBlock (doneBytes r) ≡ block (map (choose (E .entries)) fs))
         × (doneBytes r ≡ blockWire (map (choose (E .entries)) fs))
 
-    pub block-told : (turn : Bool) (q : ListRead) → readList s ≡ q
+    pub block-told : (turn : Bool) (q : FieldListRead) → readFieldList s ≡ q
         → let o = encoderCall E (pick turn (readListCall stream part (length out) q) (at-encoder.unread out-of-turn)) in
         r .answer ≡ o .answer → r .output ≡ overlay out 0 (outputBytes (o .output)) → r .answer .number ≡ 0 → Written
-    block-told true (lists.ListRead.list fs) read a o z =
+    block-told true (lists.FieldListRead.list fs) read a o z =
         let c = at-encoder.block stream part fs (length out) in
         let fine = list-forth s small fs read .1 in
         let d = block-done E (stands-forms m E S) stream part fs (length out) fine (ap (λ (x : Answer). x .number) (sym a) ∙ z) in
         let b = done-bytes E (encoderCall E c) out r a o (encoder-refused E c) (encoded-told E stream part fs (length out)) in
         (fs, read, fine, ap readBlock b ∙ d .0, b ∙ d .1)
-    block-told true (lists.ListRead.refused number) read a o z =
+    block-told true (lists.FieldListRead.refused number) read a o z =
         let n : number ≡ 0 = unread-number E number (sym (ap (λ (x : Answer). x .number) a) ∙ z) in
         absurd (⊎-elim (λ d. omega (arith, n)) (λ d. omega (arith, n)) (list-number s (length s) 0 [] number read))
     block-told false q read a o z = absurd (omega (arith, unread-number E out-of-turn (sym (ap (λ (x : Answer). x .number) a) ∙ z)))

@@ -11,9 +11,9 @@ use Rattle.memory.specs.Choice.{pick}
 use Rattle.memory.proofs.Places.{has-all}
 use Rattle.integers.specs.Answers.{Answer, out-of-turn}
 use Rattle.wire.specs.Name.{literal}
-use Rattle.fields.specs.Reading.{ListRead, readList}
+use Rattle.fields.specs.Reading.{FieldListRead, readFieldList}
 use Rattle.fields.specs.Reading as lists
-use Rattle.instructions.specs.Instruction.{Instruction, Manages, Fine, instructionWire}
+use Rattle.instructions.specs.Instruction.{Instruction, Manages, FineInstruction, instructionWire}
 use Rattle.instructions.specs.Reading.{readForEncoder, onInstruction, instructionOf}
 use Rattle.instructions.specs.declared.read.InstructionPlace.the-variants.{Insert, Delete, Acknowledge}
 use Rattle.instructions.specs.declared.read.InstructionRead.{InstructionRead}
@@ -39,7 +39,7 @@ use Rattle.link.proofs.Lifted.{LiftedEncoder, readListCall, acknowledge
 use Rattle.link.proofs.DoneBytes.{done-bytes}
 
 -- ---- what bytes say: an instruction that can be said does what it says, and none do nothing
-managed-back : (i : Instruction) → Manages i × Fine i → managed (instructionWire i) ≡ doneBy i
+managed-back : (i : Instruction) → Manages i × FineInstruction i → managed (instructionWire i) ≡ doneBy i
 managed-back i f =
     let back = decoder-back (instructionWire i) i (f .0) (f .1) (has-all (instructionWire i)) in
     ap (λ (q : InstructionRead). onInstruction (λ n. []) q (λ p taken. doneBy (instructionOf (instructionWire i) p))) (back .1) ∙ ap doneBy (back .2)
@@ -59,11 +59,11 @@ delete-happened E F i room =
     refl
 
 -- ---- a block: nothing
-block-happened : (E : Encoder) (turn : Bool) (stream part room : ℕ) (l : ListRead) (o : Outcome Encoder)
+block-happened : (E : Encoder) (turn : Bool) (stream part room : ℕ) (l : FieldListRead) (o : Outcome Encoder)
     → [] ≡ sentHappened (pick turn (readListCall stream part room l) (at-encoder.unread out-of-turn)) o
 unfolding sentHappened
-block-happened E true stream part room (lists.ListRead.list fs) o = refl
-block-happened E true stream part room (lists.ListRead.refused number) o = refl
+block-happened E true stream part room (lists.FieldListRead.list fs) o = refl
+block-happened E true stream part room (lists.FieldListRead.refused number) o = refl
 block-happened E false stream part room l o = refl
 
 -- ---- an acknowledgement
@@ -77,7 +77,7 @@ acknowledge-happened : (E : Encoder) (s : List ℕ) (r : Result) (q : Instructio
     ≡ sentHappened (onInstruction at-encoder.unread q acknowledgedCall) (encoderCall E (onInstruction at-encoder.unread q acknowledgedCall))
 unfolding sentHappened encoderCall
 acknowledge-happened E s r (Found (Insert i name value) taken) e = rw e refl
-acknowledge-happened E s r (Found (Delete i plain last) taken) e = rw e refl
+acknowledge-happened E s r (Found (Delete i first last) taken) e = rw e refl
 acknowledge-happened E s r (Found (Acknowledge i) taken) e = ap (λ (a : Answer). pick (eqb (a .number) 0) (freed (i .value) ∷ []) []) e
 acknowledge-happened E s r (Refused number) e = pick-none (eqb (r .answer .number) 0)
 
@@ -92,5 +92,5 @@ call-happened E F (calls.EncoderCall.delete index out) r L =
     ap managed (done-bytes E (encoderCall E c) out r (L .answer) (L .output) (encoder-refused E c) (deleted-told E index (length out)))
     ∙ delete-happened E F index (length out)
 call-happened E F (calls.EncoderCall.block stream part s out) r L =
-    block-happened E (partTurn (E .written) stream (partOf part)) stream part (length out) (readList s) _
+    block-happened E (partTurn (E .written) stream (partOf part)) stream part (length out) (readFieldList s) _
 call-happened E F (calls.EncoderCall.acknowledge s) r L = acknowledge-happened E s r (readForEncoder s) (L .answer)

@@ -6,7 +6,7 @@ use mathlib.Core.Bool.{false}
 use mathlib.Core.Option.{Option, none, some}
 use mathlib.Core.List.{List, [], map}
 use Rattle.memory.specs.Bytes.{Small}
-use Rattle.fields.specs.Reading.{readList}
+use Rattle.fields.specs.Reading.{readFieldList}
 use Rattle.instructions.specs.Instruction.{delete, instructionWire}
 use Rattle.blocks.specs.Reading.{block}
 use Rattle.model.specs.Table.{Ascending, look, vacantFrom}
@@ -83,7 +83,7 @@ module _ (m : List ℕ) (limit : ℕ) (S : StandsEncoder m (startEncoder limit))
       let d = delete-told (encoderAfter m cs) now stands-now i out small z in
       let index = look-index sentIndex i (now .entries) (d .0) (d .1) in
       d .2
-      ∙ ap (λ (k : ℕ). instructionWire (delete k (emptyList (d .0 .plain)) (emptyList (d .0 .trailer)))) index
+      ∙ ap (λ (k : ℕ). instructionWire (delete k (emptyList (d .0 .nontrailer)) (emptyList (d .0 .trailer)))) index
       ∙ ap₂ (λ (x y : ℕ). instructionWire (delete i (emptyList x) (emptyList y))) (horizon-now nontrailer i (d .0) (d .1)) (horizon-now trailer i (d .0) (d .1))
 
   history-now : EncoderHistory m cs
@@ -104,7 +104,7 @@ module _ (m : List ℕ) (limit : ℕ) (S : StandsEncoder m (startEncoder limit))
         block-lowest = λ stream part s out small o z.
             let L = lift-encoder k now stands-now (calls.EncoderCall.block stream part s out) (small, o) in
             let w = block-told k now stands-now stream part s out small (encoderResult k (calls.EncoderCall.block stream part s out))
-            (partTurn (now .written) stream (partOf part)) (readList s) refl (L .answer) (L .output) z in
+            (partTurn (now .written) stream (partOf part)) (readFieldList s) refl (L .answer) (L .output) z in
             (w .0, map (choose (now .entries)) (w .0), w .1, w .3, w .4, all-written hs (now .entries) order told-now (w .0) (w .2));
         delete-says = delete-now;
       }

@@ -12,7 +12,7 @@ use Rattle.memory.specs.Choice.{pick, need}
 use Rattle.memory.specs.Bytes.{Small}
 use Rattle.memory.proofs.Order.{pick-both, need-both, need-true}
 use Rattle.integers.specs.Answers.{refusal, done, over-limit, no-room, out-of-turn}
-use Rattle.fields.specs.Reading.{ListRead, readList}
+use Rattle.fields.specs.Reading.{FieldListRead, readFieldList}
 use Rattle.fields.specs.Reading as lists
 use Rattle.fields.proofs.Lists.{list-forth}
 use Rattle.instructions.specs.Reading.{readForEncoder, onInstruction}
@@ -48,16 +48,16 @@ fine-encoder E (calls.EncoderCall.insert name value out) b = tt
 fine-encoder E (calls.EncoderCall.delete index out) b = tt
 fine-encoder E (calls.EncoderCall.block stream part s out) b =
     pick-both (λ (x : at-encoder.EncoderCall). FineLinkCall (encoder x)) (partTurn (E .written) stream (partOf part)) _ (at-encoder.unread out-of-turn)
-    (λ e. go (readList s) refl) (λ e. tt)
+    (λ e. go (readFieldList s) refl) (λ e. tt)
   where
-    go : (r : ListRead) → readList s ≡ r → FineLinkCall (encoder (readListCall stream part (length out) r))
-    go (lists.ListRead.list fs) e = list-forth s (b .0) fs e .1
-    go (lists.ListRead.refused number) e = tt
+    go : (r : FieldListRead) → readFieldList s ≡ r → FineLinkCall (encoder (readListCall stream part (length out) r))
+    go (lists.FieldListRead.list fs) e = list-forth s (b .0) fs e .1
+    go (lists.FieldListRead.refused number) e = tt
 fine-encoder E (calls.EncoderCall.acknowledge s) b = go (readForEncoder s)
   where
     go : (r : InstructionRead) → FineLinkCall (encoder (onInstruction at-encoder.unread r acknowledgedCall))
     go (Found (Insert i name value) taken) = tt
-    go (Found (Delete i plain trailer) taken) = tt
+    go (Found (Delete i nontrailer trailer) taken) = tt
     go (Found (Acknowledge i) taken) = tt
     go (Refused number) = tt
 
@@ -66,16 +66,16 @@ unfolding encoderCallOf
 small-encoder-call E (calls.EncoderCall.insert name value out) b = (b .0, b .1)
 small-encoder-call E (calls.EncoderCall.delete index out) b = tt
 small-encoder-call E (calls.EncoderCall.block stream part s out) b =
-    pick-both SmallEncoderCall (partTurn (E .written) stream (partOf part)) _ (at-encoder.unread out-of-turn) (λ e. go (readList s)) (λ e. tt)
+    pick-both SmallEncoderCall (partTurn (E .written) stream (partOf part)) _ (at-encoder.unread out-of-turn) (λ e. go (readFieldList s)) (λ e. tt)
   where
-    go : (r : ListRead) → SmallEncoderCall (readListCall stream part (length out) r)
-    go (lists.ListRead.list fs) = tt
-    go (lists.ListRead.refused number) = tt
+    go : (r : FieldListRead) → SmallEncoderCall (readListCall stream part (length out) r)
+    go (lists.FieldListRead.list fs) = tt
+    go (lists.FieldListRead.refused number) = tt
 small-encoder-call E (calls.EncoderCall.acknowledge s) b = go (readForEncoder s)
   where
     go : (r : InstructionRead) → SmallEncoderCall (onInstruction at-encoder.unread r acknowledgedCall)
     go (Found (Insert i name value) taken) = tt
-    go (Found (Delete i plain trailer) taken) = tt
+    go (Found (Delete i nontrailer trailer) taken) = tt
     go (Found (Acknowledge i) taken) = tt
     go (Refused number) = tt
 
@@ -110,15 +110,15 @@ module _ (m : List ℕ) (small : Small m) (forms : formsEncoder m ≡ true) wher
   same-encoder (calls.EncoderCall.insert name value out) = need-true (formsEncoder m) _ _ forms
   same-encoder (calls.EncoderCall.delete index out) = need-true (formsEncoder m) _ _ forms
   same-encoder (calls.EncoderCall.block stream part s out) =
-      need-true (formsEncoder m) _ _ forms ∙ go (partTurn (encoderOf m .written) stream (partOf part)) (readList s)
+      need-true (formsEncoder m) _ _ forms ∙ go (partTurn (encoderOf m .written) stream (partOf part)) (readFieldList s)
     where
-      go : (b : Bool) (r : ListRead)
+      go : (b : Bool) (r : FieldListRead)
           → need b (refused m out out-of-turn)
           (onList (refused m out) r (λ fs. stepped overlayEncoder m out (encodeBlock (encoderOf m) stream part fs (length out))))
           ≡ stepped overlayEncoder m out (encoderCall (encoderOf m)
           (pick b (readListCall stream part (length out) r) (at-encoder.unread out-of-turn)))
-      go true (lists.ListRead.list fs) = refl
-      go true (lists.ListRead.refused number) = refused-step out number
+      go true (lists.FieldListRead.list fs) = refl
+      go true (lists.FieldListRead.refused number) = refused-step out number
       go false r = refused-step out out-of-turn
   same-encoder (calls.EncoderCall.acknowledge s) = need-true (formsEncoder m) _ _ forms ∙ go (readForEncoder s)
     where
@@ -126,7 +126,7 @@ module _ (m : List ℕ) (small : Small m) (forms : formsEncoder m ≡ true) wher
           → onInstruction (refused m []) r (acknowledged m)
           ≡ stepped overlayEncoder m [] (encoderCall (encoderOf m) (onInstruction at-encoder.unread r acknowledgedCall))
       go (Found (Insert i name value) taken) = refused-step [] 5
-      go (Found (Delete i plain trailer) taken) = refused-step [] 5
+      go (Found (Delete i nontrailer trailer) taken) = refused-step [] 5
       go (Found (Acknowledge i) taken) = refl
       go (Refused number) = refused-step [] number
 

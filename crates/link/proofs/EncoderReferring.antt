@@ -12,7 +12,7 @@ use Rattle.memory.specs.Choice.{pick}
 use Rattle.memory.specs.Bytes.{overlay}
 use Rattle.integers.specs.Answers.{Answer, out-of-turn}
 use Rattle.fields.specs.Form.{Field, AllFine}
-use Rattle.fields.specs.Reading.{ListRead, readList}
+use Rattle.fields.specs.Reading.{FieldListRead, readFieldList}
 use Rattle.fields.specs.Reading as lists
 use Rattle.fields.proofs.Lists.{list-forth}
 use Rattle.instructions.specs.Reading.{readForEncoder, onInstruction}
@@ -90,22 +90,22 @@ module _ (i : ℕ) (p : Part) (h : ℕ) (E : Encoder) (F : FormsEncoder E) (stre
     unread-left number left =
         left-raises (at-encoder.unread number) left (record { told = λ z. refl; fits = omega arith }) (unread-raises number)
 
-    block-left : (turn : Bool) (l : ListRead) → ((fs : List Field) → l ≡ lists.ListRead.list fs → AllFine fs)
+    block-left : (turn : Bool) (l : FieldListRead) → ((fs : List Field) → l ≡ lists.FieldListRead.list fs → AllFine fs)
         → Left (pick turn (readListCall stream part (length out) l) (at-encoder.unread out-of-turn))
         → raisedTo i p h stream part (r .answer .number) (doneBytes r)
         ≡ model.horizonAfter i p h E (pick turn (readListCall stream part (length out) l) (at-encoder.unread out-of-turn))
     unfolding model.horizonAfter
-    block-left true (lists.ListRead.list fs) fine left =
+    block-left true (lists.FieldListRead.list fs) fine left =
         left-raises (at-encoder.block stream part fs (length out)) left (encoded-told E stream part fs (length out))
         (encoded-raises fs (length out) (fine fs refl))
-    block-left true (lists.ListRead.refused number) fine left = unread-left number left
+    block-left true (lists.FieldListRead.refused number) fine left = unread-left number left
     block-left false l fine left = unread-left out-of-turn left
 
 acknowledge-horizon : (i : ℕ) (p : Part) (h : ℕ) (E : Encoder) (r : InstructionRead)
     → h ≡ model.horizonAfter i p h E (onInstruction at-encoder.unread r acknowledgedCall)
 unfolding model.horizonAfter
 acknowledge-horizon i p h E (Found (Insert j name value) taken) = refl
-acknowledge-horizon i p h E (Found (Delete j plain last) taken) = refl
+acknowledge-horizon i p h E (Found (Delete j first last) taken) = refl
 acknowledge-horizon i p h E (Found (Acknowledge j) taken) = refl
 acknowledge-horizon i p h E (Refused number) = refl
 
@@ -136,7 +136,7 @@ call-horizon i p ss m E (calls.EncoderCall.delete index out) b stands L = refl
 call-horizon i p ss m E (calls.EncoderCall.block stream part s out) b stands L =
     let r = encoderResult m (calls.EncoderCall.block stream part s out) in
     horizon-added (eqb (r .answer .number) 0 && (eqb part (partNumber p) && mentions (blockIndexes (doneBytes r)) i)) stream ss
-    ∙ block-left i p (horizonOf ss) E (stands-forms m E stands) stream part r out (partTurn (E .written) stream (partOf part)) (readList s)
+    ∙ block-left i p (horizonOf ss) E (stands-forms m E stands) stream part r out (partTurn (E .written) stream (partOf part)) (readFieldList s)
     (λ fs e. list-forth s (b .0) fs e .1) (L .answer, L .output)
 call-horizon i p ss m E (calls.EncoderCall.acknowledge s) b stands L = acknowledge-horizon i p (horizonOf ss) E (readForEncoder s)
 

@@ -13,11 +13,11 @@ use Rattle.memory.specs.Choice.{pick}
 use Rattle.memory.specs.Bytes.{Small, overlay}
 use Rattle.integers.specs.Answers.{Answer, done, out-of-turn}
 use Rattle.fields.specs.Form.{Field}
-use Rattle.fields.specs.Reading.{ListRead, readList}
+use Rattle.fields.specs.Reading.{FieldListRead, readFieldList}
 use Rattle.fields.specs.Reading as lists
 use Rattle.fields.proofs.Lists.{list-forth}
 use Rattle.fields.proofs.Walk.{list-number}
-use Rattle.instructions.specs.Instruction.{Instruction, Fine, Manages, instructionWire}
+use Rattle.instructions.specs.Instruction.{Instruction, FineInstruction, Manages, instructionWire}
 use Rattle.instructions.specs.Reading.{readForEncoder, onInstruction}
 use Rattle.instructions.specs.declared.read.InstructionPlace.the-variants.{Insert, Delete, Acknowledge}
 use Rattle.instructions.specs.declared.read.InstructionRead.{InstructionRead}
@@ -55,7 +55,7 @@ module _ (c : EncoderCall) (speaks : Speaks c) (r : Result) where
   unsaid : (a : Answer) → eqb (a .number) 0 ≡ false → r .answer ≡ a → TiedStep (Event.byEncoder c r) model.quiet
   unsaid a z e = idle-step (Event.byEncoder c r) (quiet-speech c r speaks (done-none r (unlike r a e z)))
 
-  saying : (out : List ℕ) (i : Instruction) (second : ℕ) → Manages i × Fine i → length (instructionWire i) ≤ length out
+  saying : (out : List ℕ) (i : Instruction) (second : ℕ) → Manages i × FineInstruction i → length (instructionWire i) ≤ length out
       → r .answer ≡ done (length (instructionWire i)) second → r .output ≡ overlay out 0 (instructionWire i) → TiedStep (Event.byEncoder c r) (model.said i)
   saying out i second f h a o = record {
     step = said c r i (record { speaks = speaks; manages = f .0; fine = f .1; bytes = done-some r out (instructionWire i) second h a o });
@@ -102,7 +102,7 @@ module _ (E : Encoder) (F : FormsEncoder E) (r : Result) (stream part : ℕ) (s 
   unwritten : (n : ℕ) → (n ≡ 0 → ⊥) → r .answer .number ≡ n → TiedStep (Event.byEncoder write r) model.quiet
   unwritten n f e = idle-step (Event.byEncoder write r) (quiet-block stream part s out r (refused-number r (λ z. f (sym e ∙ z))))
 
-  block-step : (fs : List Field) → Small s → readList s ≡ lists.ListRead.list fs → Left r out (encodeBlock E stream part fs (length out))
+  block-step : (fs : List Field) → Small s → readFieldList s ≡ lists.FieldListRead.list fs → Left r out (encodeBlock E stream part fs (length out))
       → TiedStep (Event.byEncoder write r) (wroteBy stream part fs (encodeBlock E stream part fs (length out) .output))
   unfolding wroteBy outputBytes encoderCall
   block-step fs small read =
@@ -122,13 +122,13 @@ module _ (E : Encoder) (F : FormsEncoder E) (r : Result) (stream part : ℕ) (s 
       refl
 
   -- by its reading
-  written-step : (b : Bool) (q : ListRead) → Small s → readList s ≡ q
+  written-step : (b : Bool) (q : FieldListRead) → Small s → readFieldList s ≡ q
       → Left r out (encoderCall E (pick b (readListCall stream part (length out) q) (at-encoder.unread out-of-turn)))
       → TiedStep (Event.byEncoder write r) (encoderEvent (pick b (readListCall stream part (length out) q) (at-encoder.unread out-of-turn))
       (encoderCall E (pick b (readListCall stream part (length out) q) (at-encoder.unread out-of-turn))))
   unfolding encoderCall encoderEvent
-  written-step true (lists.ListRead.list fs) small e l = block-step fs small e l
-  written-step true (lists.ListRead.refused number) small e l =
+  written-step true (lists.FieldListRead.list fs) small e l = block-step fs small e l
+  written-step true (lists.FieldListRead.refused number) small e l =
       let f : number ≡ 0 → ⊥ = λ z. ⊎-elim (λ d. omega (arith, z)) (λ d. omega (arith, z)) (list-number s (length s) 0 [] number e) in
       unwritten number f (ap (λ (a : Answer). a .number) (l .answer))
   written-step false q small e l = unwritten out-of-turn (λ z. omega (arith, z)) (ap (λ (a : Answer). a .number) (l .answer))
@@ -146,7 +146,7 @@ module _ (E : Encoder) (r : Result) (s : List ℕ) where
       (encoderCall E (onInstruction at-encoder.unread q acknowledgedCall)))
   unfolding encoderCall encoderEvent
   acknowledged-step (Found (Insert i name value) taken) e t l = let k = encoder-good s _ taken e .kind in nope (cc)
-  acknowledged-step (Found (Delete i plain trailer) taken) e t l = let k = encoder-good s _ taken e .kind in nope (cc)
+  acknowledged-step (Found (Delete i nontrailer trailer) taken) e t l = let k = encoder-good s _ taken e .kind in nope (cc)
   acknowledged-step (Found (Acknowledge i) taken) e t l = record {
     step = acknowledged s r (i .value) (record {
       place = Acknowledge i;
@@ -172,5 +172,5 @@ unfolding encoderCallOf encoderCall encoderEvent
 encoder-step E F (calls.EncoderCall.insert name value out) b r l = insert-step E F r name value out l
 encoder-step E F (calls.EncoderCall.delete index out) b r l = delete-step E F r index out l
 encoder-step E F (calls.EncoderCall.block stream part s out) b r l =
-    written-step E F r stream part s out (partTurn (E .written) stream (partOf part)) (readList s) (b .0) refl l
+    written-step E F r stream part s out (partTurn (E .written) stream (partOf part)) (readFieldList s) (b .0) refl l
 encoder-step E F (calls.EncoderCall.acknowledge s) b r l = acknowledged-step E r s (readForEncoder s) refl (encoder-told s .told) l

@@ -36,8 +36,8 @@ module _ (D : Decoder) where
   lawful-call (insert i name value) taken =
       ways.insert-ways (Allowed (insert i name value)) D (λ a z e. absurd (eqb-false (a .number) 0 z e)) i name value taken
       (λ xs e n f g z. (ap (λ (o : Option Held). isHeld (slotIn o)) n, tt))
-  lawful-call (delete i plain last) taken =
-      ways.delete-ways (Allowed (delete i plain last)) D (λ a z e. absurd (eqb-false (a .number) 0 z e)) i plain last taken
+  lawful-call (delete i first last) taken =
+      ways.delete-ways (Allowed (delete i first last)) D (λ a z e. absurd (eqb-false (a .number) 0 z e)) i first last taken
       (λ h e f z. (ap (λ (o : Option Held). isHeld (slotIn o)) e, f, tt))
   lawful-call (acknowledge i) taken =
       ways.acknowledge-ways (Allowed (acknowledge i)) D (λ a z e. absurd (eqb-false (a .number) 0 z e)) i taken

@@ -11,7 +11,7 @@ use Rattle.integers.specs.Answers.{done}
 use Rattle.model.specs.Outcome.{nothing, outputBytes, Outcome, finish}
 use Rattle.model_laws.specs.Promises.{Unchanged}
 use Rattle.reply.specs.Result.{Result, refused, stepped}
-use Rattle.reply.proofs.Unpack.{unpack}
+use Rattle.reply.proofs.Joined.{separable}
 use Rattle.link.specs.Calls.{Call, resultOf, lent, formsAt, lengthAt}
 use Rattle.link.specs.Answers.{Answered, First}
 use Rattle.link.proofs.Says.{Allowed, Says, refuses, refusal-allowed}
@@ -36,7 +36,7 @@ leaves-answered m c L =
       first = A .first;
       second = A .second;
       counted = A .counted;
-      unpacked = unpack (resultOf m c .answer) (A .narrow) (A .byte) (A .low);
+      parts-back = separable (resultOf m c .answer) (A .narrow) (A .byte) (A .low);
       unchanged = L .unchanged;
       written = L .written;
       forms = L .formed;

@@ -7,7 +7,7 @@ use lib.ListN.{length}
 use Rattle.memory.specs.Choice.{pick}
 use Rattle.memory.specs.Bytes.{Small, overlay}
 use Rattle.integers.specs.Answers.{out-of-turn}
-use Rattle.fields.specs.Reading.{ListRead}
+use Rattle.fields.specs.Reading.{FieldListRead}
 use Rattle.fields.specs.Reading as lists
 use Rattle.instructions.specs.Reading.{readForDecoder, readForEncoder, onInstruction, instructionOf}
 use Rattle.instructions.specs.declared.read.InstructionPlace.{InstructionPlace}
@@ -42,20 +42,20 @@ decoderCallOf D (calls.DecoderCall.close k stream) = at-decoder.close k stream
 decoderCallOf D (calls.DecoderCall.collect out) = at-decoder.collect (length out)
 decoderCallOf D (calls.DecoderCall.hold index) = at-decoder.hold index
 
-abbrev pub readListCall : ℕ → ℕ → ℕ → ListRead → at-encoder.EncoderCall
-readListCall stream part room (lists.ListRead.list fs) = at-encoder.block stream part fs room
-readListCall stream part room (lists.ListRead.refused number) = at-encoder.unread number
+abbrev pub readListCall : ℕ → ℕ → ℕ → FieldListRead → at-encoder.EncoderCall
+readListCall stream part room (lists.FieldListRead.list fs) = at-encoder.block stream part fs room
+readListCall stream part room (lists.FieldListRead.refused number) = at-encoder.unread number
 
 abbrev pub acknowledgedCall : InstructionPlace → ℕ → at-encoder.EncoderCall
 acknowledgedCall (Insert i name value) taken = at-encoder.unread 5
-acknowledgedCall (Delete i plain last) taken = at-encoder.unread 5
+acknowledgedCall (Delete i first last) taken = at-encoder.unread 5
 acknowledgedCall (Acknowledge i) taken = at-encoder.acknowledged (i .value) taken
 
 unfoldable pub encoderCallOf : Encoder → EncoderCall → at-encoder.EncoderCall
 encoderCallOf E (calls.EncoderCall.insert name value out) = at-encoder.insert name value (length out)
 encoderCallOf E (calls.EncoderCall.delete index out) = at-encoder.delete index (length out)
 encoderCallOf E (calls.EncoderCall.block stream part s out) =
-    pick (partTurn (E .written) stream (partOf part)) (readListCall stream part (length out) (lists.readList s)) (at-encoder.unread out-of-turn)
+    pick (partTurn (E .written) stream (partOf part)) (readListCall stream part (length out) (lists.readFieldList s)) (at-encoder.unread out-of-turn)
 encoderCallOf E (calls.EncoderCall.acknowledge s) = onInstruction at-encoder.unread (readForEncoder s) acknowledgedCall
 
 -- ---- memory that forms a state, of bytes, and the state that it stands for

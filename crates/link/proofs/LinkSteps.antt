@@ -54,9 +54,9 @@ read-taken : (D : Decoder) (i : Instruction) (taken : ℕ) → readInstruction D
 read-taken D (insert i name value) taken =
     ways.insert-ways (λ (o : Outcome Decoder). o .answer .number ≡ 0 → o .answer .first ≡ taken) D
     (λ a z e. absurd (eqb-false (a .number) 0 z e)) i name value taken (λ xs d free fits few e. refl)
-read-taken D (delete i plain trailer) taken =
+read-taken D (delete i nontrailer trailer) taken =
     ways.delete-ways (λ (o : Outcome Decoder). o .answer .number ≡ 0 → o .answer .first ≡ taken) D
-    (λ a z e. absurd (eqb-false (a .number) 0 z e)) i plain trailer taken (λ h there free e. refl)
+    (λ a z e. absurd (eqb-false (a .number) 0 z e)) i nontrailer trailer taken (λ h there free e. refl)
 read-taken D (acknowledge i) taken =
     ways.acknowledge-ways (λ (o : Outcome Decoder). o .answer .number ≡ 0 → o .answer .first ≡ taken) D
     (λ a z e. absurd (eqb-false (a .number) 0 z e)) i taken

@@ -148,7 +148,7 @@ list-bytes l =
 deletes-bytes : (ds : List Delete) → Bytes (deletesBytes ds)
 unfolding deletesBytes deleteBytes
 deletes-bytes [] = no-bytes
-deletes-bytes (d ∷ ds) = join (join (number 4 (d .index)) (join (list-bytes (d .plain)) (list-bytes (d .trailer)))) (deletes-bytes ds)
+deletes-bytes (d ∷ ds) = join (join (number 4 (d .index)) (join (list-bytes (d .nontrailer)) (list-bytes (d .trailer)))) (deletes-bytes ds)
 
 pub small-decoder : (D : Decoder) (m : List ℕ) → Small m → Each SmallHeld (D .entries) → Small (overlayDecoder D m)
 unfolding overlayDecoder decoderFront rowOfHeld
@@ -168,9 +168,9 @@ unfolding referencesOver referenceOver
 references-small [] m s = s
 references-small (e ∷ es) m s =
     let at : ℕ = referencePlace (e .index) in
-    let plain : List ℕ = numberBytes 2 (e .plain) in
+    let nontrailer : List ℕ = numberBytes 2 (e .nontrailer) in
     references-small es (referenceOver e m)
-    (small-overlay (overlay m at plain) (at + 38) (numberBytes 2 (e .trailer)) (small-overlay m at plain s (small-numberBytes 2 (e .plain)))
+    (small-overlay (overlay m at nontrailer) (at + 38) (numberBytes 2 (e .trailer)) (small-overlay m at nontrailer s (small-numberBytes 2 (e .nontrailer)))
     (small-numberBytes 2 (e .trailer)))
 
 pub small-encoder : (E : Encoder) (m : List ℕ) → Small m → Each SmallSent (E .entries) → Small (overlayEncoder E m)

@@ -21,7 +21,7 @@ use Rattle.model.specs.Decoder.{Held, heldIndex, Decoder, slotIn, lookup, slotN
 use Rattle.model.specs.DecoderCalls.{decoderCall}
 use Rattle.model.specs.DecoderCalls as at-decoder
 use Rattle.model_laws.specs.Ready.{FineCall}
-use Rattle.model.specs.Encoder.{sentIndex, Encoder, deleteAt, refer, startEncoder, newSent}
+use Rattle.model.specs.Encoder.{sentIndex, Encoder, markDeleted, refer, startEncoder, newSent}
 use Rattle.model.specs.EncoderCalls.{encoderCall}
 use Rattle.model.specs.EncoderCalls as at-encoder
 use Rattle.model_laws.proofs.Tables.{nope, pick-eq}
@@ -72,7 +72,7 @@ Unmarked o = MarksBelow (o .state .finished)
 decoder-marks : (D : Decoder) → MarksBelow (D .finished) → (c : at-decoder.DecoderCall) → Unmarked (decoderCall D c)
 unfolding decoderCall without
 decoder-marks D B (at-decoder.read (insert i name value) taken) = decoder.insert-ways Unmarked D (λ a z. B) i name value taken (λ xs e n f g. B)
-decoder-marks D B (at-decoder.read (delete i plain trailer) taken) = decoder.delete-ways Unmarked D (λ a z. B) i plain trailer taken (λ h e f. B)
+decoder-marks D B (at-decoder.read (delete i nontrailer trailer) taken) = decoder.delete-ways Unmarked D (λ a z. B) i nontrailer trailer taken (λ h e f. B)
 decoder-marks D B (at-decoder.read (acknowledge i) taken) = decoder.acknowledge-ways Unmarked D (λ a z. B) i taken
 decoder-marks D B (at-decoder.block s part rs room) =
     decoder.block-ways Unmarked D (λ a z. B) s part rs room (λ p fs e below turn m fits. mark-below s below (D .finished) B p)
@@ -109,7 +109,7 @@ unfolding decoderCall without
 decoder-bytes D S (at-decoder.read (insert i name value) taken) b =
     decoder.insert-ways HeldBytes D (λ a z. S) i name value taken
     (λ xs e n f g. each-put SmallHeld heldIndex (newHeld i xs value) (D .entries) (found-small D S name (b .0) xs e, b .1) S)
-decoder-bytes D S (at-decoder.read (delete i plain trailer) taken) b = decoder.delete-ways HeldBytes D (λ a z. S) i plain trailer taken (λ h e f. S)
+decoder-bytes D S (at-decoder.read (delete i nontrailer trailer) taken) b = decoder.delete-ways HeldBytes D (λ a z. S) i nontrailer trailer taken (λ h e f. S)
 decoder-bytes D S (at-decoder.read (acknowledge i) taken) b = decoder.acknowledge-ways HeldBytes D (λ a z. S) i taken
 decoder-bytes D S (at-decoder.block s part rs room) b =
     decoder.block-ways HeldBytes D (λ a z. S) s part rs room (λ p fs e below turn m fits. S)
@@ -164,7 +164,7 @@ encoder-bytes E S (at-encoder.insert name value room) b =
     (λ i e n v fits few w. each-put SmallSent sentIndex (newSent i name value) (E .entries) b S)
 encoder-bytes E S (at-encoder.delete i room) b =
     encoder.delete-ways SentBytes E (λ a z. S) i room
-    (λ e there still fits. each-map SmallSent SmallSent (deleteAt (e .index)) (λ x p. rw (delete-entry (e .index) x) p) (E .entries) S)
+    (λ e there still fits. each-map SmallSent SmallSent (markDeleted (e .index)) (λ x p. rw (delete-entry (e .index) x) p) (E .entries) S)
 encoder-bytes E S (at-encoder.block s part fs room) b =
     encoder.block-ways SentBytes E (λ a z. S) s part fs room
     (λ p rs chosen e below turn short fits. each-map SmallSent SmallSent (refer s p rs) (λ x q. rw (refer-entry s p rs x) q) (E .entries) S)

@@ -142,8 +142,8 @@ held-one i h b (insert j name value) n m e = pick-over b (eqb j i) h ∙ ap (λ 
     pick-over : (a c h : Bool) → after (heldBy i) h (pick a (inserted j name value ∷ []) []) ≡ pick (a && eqb j i) true h
     pick-over true c h = refl
     pick-over false c h = refl
-held-one i h true (delete j plain last) n m e = refl
-held-one i h false (delete j plain last) n m e = refl
+held-one i h true (delete j first last) n m e = refl
+held-one i h false (delete j first last) n m e = refl
 held-one i h b (acknowledge j) n m e = absurd m
 
 on-found : (s : List ℕ) (q : InstructionRead) (p : InstructionPlace) (taken : ℕ) (j : Instruction)

@@ -7,7 +7,7 @@ use mathlib.Core.List.{List, [], map}
 use lib.ListN.{length}
 use Rattle.integers.specs.Answers.{Answer}
 use Rattle.fields.specs.Form.{Field, listForm}
-use Rattle.instructions.specs.Instruction.{Instruction, acknowledge, FineIndex, Fine, Manages, instructionWire}
+use Rattle.instructions.specs.Instruction.{Instruction, acknowledge, FineIndex, FineInstruction, Manages, instructionWire}
 use Rattle.instructions.specs.Reading.{readForDecoder, readForEncoder, instructionOf}
 use Rattle.instructions.specs.declared.read.InstructionPlace.{InstructionPlace}
 use Rattle.instructions.specs.declared.read.InstructionRead.{InstructionRead}
@@ -36,7 +36,7 @@ Speaks (calls.EncoderCall.acknowledge s) = ⊥
 pub record SaidAs (c : EncoderCall) (r : Result) (i : Instruction) : Type 0 where
   pub speaks : Speaks c
   pub manages : Manages i
-  pub fine : Fine i
+  pub fine : FineInstruction i
   pub bytes : doneBytes r ≡ instructionWire i
 
 -- the bytes written are a block's, which reads as what was said; the list put in is the fields'

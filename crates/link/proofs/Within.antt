@@ -11,7 +11,7 @@ use Rattle.model.specs.Outcome.{Outcome}
 use Rattle.model.specs.Decoder.{Decoder, Held, heldIndex, heldSize, startDecoder, nextFreed, ready, without, FormsDecoder}
 use Rattle.model.specs.DecoderCalls.{decoderCall, afterDecoder}
 use Rattle.model.specs.DecoderCalls as at-decoder
-use Rattle.model.specs.Encoder.{Encoder, Sent, sentIndex, sentSize, startEncoder, deleteAt, refer, newSent}
+use Rattle.model.specs.Encoder.{Encoder, Sent, sentIndex, sentSize, startEncoder, markDeleted, refer, newSent}
 use Rattle.model.specs.EncoderCalls.{encoderCall, afterEncoder}
 use Rattle.model.specs.EncoderCalls as at-encoder
 use Rattle.model_laws.specs.Ready.{FineCalls}
@@ -50,8 +50,8 @@ module _ (limit : ℕ) (D : Decoder) (F : FormsDecoder D) (W : Within limit D) w
         held = omega (arith, total-put heldIndex heldWeight (decoding.newHeld i xs value) (D .entries), fits, W .same);
         same = W .same;
       })
-  within-call (at-decoder.read (delete i plain last) taken) =
-      decoding.delete-ways Stays D (λ a z. W) i plain last taken (λ h e f. record { held = W .held; same = W .same })
+  within-call (at-decoder.read (delete i first last) taken) =
+      decoding.delete-ways Stays D (λ a z. W) i first last taken (λ h e f. record { held = W .held; same = W .same })
   within-call (at-decoder.read (acknowledge i) taken) = decoding.acknowledge-ways Stays D (λ a z. W) i taken
   within-call (at-decoder.block s part rs room) =
       decoding.block-ways Stays D (λ a z. W) s part rs room (λ p fs e low turn m fits. record { held = W .held; same = W .same })
@@ -107,7 +107,7 @@ module _ (limit : ℕ) (E : Encoder) (W : Below limit E) where
       (λ e there still fits. record {
         held = omega (
           arith,
-          total-map sentIndex (deleteAt (e .index)) (delete-index (e .index)) sentWeight
+          total-map sentIndex (markDeleted (e .index)) (delete-index (e .index)) sentWeight
               (λ x. ap size (delete-entry (e .index) x)) (E .entries),
           W .held,
         );

@@ -9,7 +9,7 @@ use Rattle.memory.specs.Bytes.{overlay}
 use Rattle.memory.proofs.Order.{pick-both}
 use Rattle.memory.proofs.Overlay.{drop-overlay}
 use Rattle.integers.specs.Answers.{out-of-turn}
-use Rattle.fields.specs.Reading.{ListRead, readList}
+use Rattle.fields.specs.Reading.{FieldListRead, readFieldList}
 use Rattle.fields.specs.Reading as lists
 use Rattle.blocks.specs.Reading.{BlockRead, readBlock}
 use Rattle.blocks.specs.Reading as blocks
@@ -85,10 +85,10 @@ encoder-writes E (calls.EncoderCall.delete index out) =
 encoder-writes E (calls.EncoderCall.block stream part s out) =
     tells-writes out (encoderCall E (encoderCallOf E (calls.EncoderCall.block stream part s out)))
     (pick-both (λ (x : at-encoder.EncoderCall). Tells (length out) (encoderCall E x)) (partTurn (E .written) stream (partOf part))
-    (readListCall stream part (length out) (readList s)) (at-encoder.unread out-of-turn)
-    (λ e. go (readList s)) (λ e. unread-encoder E out-of-turn (length out)))
+    (readListCall stream part (length out) (readFieldList s)) (at-encoder.unread out-of-turn)
+    (λ e. go (readFieldList s)) (λ e. unread-encoder E out-of-turn (length out)))
   where
-    go : (r : ListRead) → Tells (length out) (encoderCall E (readListCall stream part (length out) r))
-    go (lists.ListRead.list fs) = promises .encoded E stream part fs (length out)
-    go (lists.ListRead.refused number) = unread-encoder E number (length out)
+    go : (r : FieldListRead) → Tells (length out) (encoderCall E (readListCall stream part (length out) r))
+    go (lists.FieldListRead.list fs) = promises .encoded E stream part fs (length out)
+    go (lists.FieldListRead.refused number) = unread-encoder E number (length out)
 encoder-writes E (calls.EncoderCall.acknowledge s) = none-writes (encoderCall E (encoderCallOf E (calls.EncoderCall.acknowledge s)))

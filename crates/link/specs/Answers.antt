@@ -10,7 +10,7 @@ use Rattle.memory.specs.Bytes.{Small}
 use Rattle.integers.specs.Answers.{among}
 use Rattle.state.specs.Layout.{decoderLength, encoderLength}
 use Rattle.state.specs.Forms.{formsDecoder, formsEncoder}
-use Rattle.reply.specs.Reply.{Unpacked}
+use Rattle.reply.specs.Reply.{Separable}
 use Rattle.link.specs.Calls.{DecoderCall, EncoderCall, Call, decoderStart, atDecoder, encoderStart, atEncoder, resultOf, lent, CallBytes, formsAt, lengthAt}
 use Rattle.link.specs.Calls as calls
 
@@ -110,7 +110,7 @@ pub record Answered (m : List ℕ) (c : Call) : Type 0 where
   pub second : among (secondTold c) (resultOf m c .answer .number) ≡ false → resultOf m c .answer .second ≡ 0
   pub counted : resultOf m c .answer .number ≡ 0 → Counts c (resultOf m c .answer .first)
   -- the one number that a C host gets says the answer and both told numbers again
-  pub unpacked : Unpacked (resultOf m c .answer)
+  pub parts-back : Separable (resultOf m c .answer)
   -- "Every number but 0 leaves state and buffers unchanged."
   pub unchanged : (resultOf m c .answer .number ≡ 0 → ⊥) → (resultOf m c .memory ≡ m) × (resultOf m c .output ≡ lent c)
   -- "On 0 only the told count of output bytes is written."

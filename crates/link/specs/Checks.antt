@@ -53,13 +53,13 @@ pastBelow (suc n) = calls.DecoderCall.block n 0 [] [] ∷ pastBelow n
 -- ---- which streams a delete's first list names
 
 -- the first list of the delete that these bytes are read as
-abbrev plainOf : Instruction → StreamList
-plainOf (insert i name value) = emptyList 0
-plainOf (delete i plain trailer) = plain
-plainOf (acknowledge i) = emptyList 0
+abbrev nontrailerOf : Instruction → StreamList
+nontrailerOf (insert i name value) = emptyList 0
+nontrailerOf (delete i nontrailer trailer) = nontrailer
+nontrailerOf (acknowledge i) = emptyList 0
 
-abbrev plainRead : List ℕ → StreamList
-plainRead s = onInstruction (λ number. emptyList 0) (readForDecoder s) (λ p taken. plainOf (instructionOf s p))
+abbrev nontrailerRead : List ℕ → StreamList
+nontrailerRead s = onInstruction (λ number. emptyList 0) (readForDecoder s) (λ p taken. nontrailerOf (instructionOf s p))
 
 -- the streams that it names, of the n streams from k on
 unfoldable pub namedFrom : StreamList → ℕ → ℕ → List ℕ
@@ -130,7 +130,7 @@ checks m =
     -- 8. "List 03 02 01 03 names 0, 1, 2, 4 and 7, not 3." All the streams that it names, from the bytes of a delete with this list; and what the hold
     -- enquiry tells of it: five parts hold the entry, with streams 0 to 2 past two from 4 on, with 3 and 4 past too one, 7
     check 8
-    (namedFrom (plainRead delete-list) 0 streams ++ tells m (named8 0) (hold 62) ++ tells m (named8 3) (hold 62) ++ tells m (named8 5) (hold 62))
+    (namedFrom (nontrailerRead delete-list) 0 streams ++ tells m (named8 0) (hold 62) ++ tells m (named8 3) (hold 62) ++ tells m (named8 5) (hold 62))
     (0 ∷ 1 ∷ 2 ∷ 4 ∷ 7 ∷ 0 ∷ 5 ∷ 0 ∷ 0 ∷ 2 ∷ 4 ∷ 0 ∷ 1 ∷ 7 ∷ []) ∷
     -- 9. "Limit 68 takes two entries like 4, a third gives 7; limit 67 refuses the second." The first number of each is the start's.
     check 9 (numbersSince m 68 (read h9 ∷ read h9-63 ∷ read h9-64 ∷ []) ++ numbersSince m 67 (read h9 ∷ read h9-63 ∷ []))

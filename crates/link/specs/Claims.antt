@@ -12,7 +12,7 @@ use Rattle.memory.specs.Choice.{pick}
 use Rattle.memory.specs.Bytes.{Small, overlay}
 use Rattle.integers.specs.Answers.{done, no-room}
 use Rattle.wire.specs.StreamList.{names}
-use Rattle.instructions.specs.Instruction.{Instruction, acknowledge, FineIndex, Fine, Manages, instructionWire}
+use Rattle.instructions.specs.Instruction.{Instruction, acknowledge, FineIndex, FineInstruction, Manages, instructionWire}
 use Rattle.blocks.specs.Representation.{Representation}
 use Rattle.blocks.specs.Reading.{block, readBlock}
 use Rattle.blocks.specs.Meaning.{Refers}
@@ -64,7 +64,7 @@ pub record Frees (m : List ℕ) (i : ℕ) : Type 0 where
 
 -- "a stream list for non-trailer blocks and one for trailer blocks": the deletion names the part by its own list
 abbrev pub NamedPart : Delete → ℕ → Part → Type 0
-NamedPart d s nontrailer = names (d .plain) s ≡ true
+NamedPart d s nontrailer = names (d .nontrailer) s ≡ true
 NamedPart d s trailer = names (d .trailer) s ≡ true
 
 -- of the memory m that a list of calls left; `deletions` gives the deletion that each slot is under, by those calls
@@ -279,7 +279,7 @@ Names b i = (rs : List Representation) × (readBlock b ≡ block rs) × Refers r
 
 -- what the encoder can write to the decoder, and the decoder to the encoder
 abbrev pub Managed : Instruction → Type 0
-Managed i = Manages i × Fine i
+Managed i = Manages i × FineInstruction i
 
 abbrev pub Acknowledges : Instruction → Type 0
 Acknowledges i = (k : ℕ) × (i ≡ acknowledge k) × FineIndex k

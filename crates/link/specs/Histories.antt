@@ -14,7 +14,7 @@ use Rattle.integers.specs.Integer.{largest}
 use Rattle.statics.specs.Table.{Entry, entryAt}
 use Rattle.wire.specs.Name.{Name, indexed, literal}
 use Rattle.fields.specs.Form.{Field, listForm}
-use Rattle.fields.specs.Reading.{readList}
+use Rattle.fields.specs.Reading.{readFieldList}
 use Rattle.fields.specs.Reading as lists
 use Rattle.instructions.specs.Instruction.{insert, delete, instructionWire}
 use Rattle.blocks.specs.Representation.{Representation, blockWire}
@@ -208,7 +208,7 @@ pub record EncoderHistory (m : List ℕ) (cs : List EncoderCall) : Type 0 where
   -- each field of a written block
   pub block-lowest : (stream part : ℕ) (s out : List ℕ) → Small s → Small out
       → let r = encoderResult (encoderAfter m cs) (calls.EncoderCall.block stream part s out) in r .answer .number ≡ 0
-      → (fs : List Field) × (rs : List Representation) × (readList s ≡ lists.ListRead.list fs) × (readBlock (doneBytes r) ≡ block rs)
+      → (fs : List Field) × (rs : List Representation) × (readFieldList s ≡ lists.FieldListRead.list fs) × (readBlock (doneBytes r) ≡ block rs)
       × (doneBytes r ≡ blockWire rs) × AllWrittenFor (historyThere m cs) fs rs
   -- "A delete is written with empty lists", and its horizons
   pub delete-says : (i : ℕ) (out : List ℕ) → Small out

@@ -7,7 +7,7 @@ use Rattle.wire.specs.Text.{stringBytes, stringAfter, readString, stringWire}
 use Rattle.wire.specs.Name.{readName, nameWire}
 use Rattle.wire.specs.StreamList.{readDelta, readDeltas, streamsFrom, readList, names, listed, listWire, deltasWire}
 use Rattle.statics.specs.Table.{entries, entryAt}
-use Rattle.statics.specs.Search.{hasName, hasBoth, lowest as lowest-static, lowestName, lowestBoth}
+use Rattle.statics.specs.Search.{hasName, hasBoth, lowestStatic as lowest-static, lowestName, lowestBoth}
 use Rattle.fields.specs.Form.{textForm, fieldForm, listForm}
 use Rattle.fields.specs.Reading.{readLength, readText, readField, fieldsFrom}
 use Rattle.instructions.specs.Instruction.{instructionWire}
@@ -23,7 +23,7 @@ use Rattle.model.specs.Decoder.{readInstruction, giveFields, decodePart, decode
 use Rattle.model.specs.Decoder.{freeEntry, collectEntry, holdOf, enquireHold}
 use Rattle.model.specs.DecoderCalls.{decoderCall}
 use Rattle.model.specs.Encoder.{sentSize, startEncoder, serves, servesBoth, dynamicName, staticName, chooseName, dynamicField, staticField}
-use Rattle.model.specs.Encoder.{choose, insertAt, insertEntry, deleteAt, deleteFound, deleteSent, mentions, referred, refer, writePart}
+use Rattle.model.specs.Encoder.{choose, insertAt, insertEntry, markDeleted, deleteFound, deleteSent, mentions, referred, refer, writePart}
 use Rattle.model.specs.Encoder.{encodePart, encodeBlock, acknowledgeFound, readAck}
 use Rattle.model.specs.EncoderCalls.{encoderCall}
 use Rattle.model.specs.Events.{fresh}
@@ -43,6 +43,6 @@ unfolding same readInt groups intWire groupWire stringBytes stringAfter readStri
     heldSize slotIn lookup deleteOf startDecoder slotName nameBytes insertNamed deleteEntry readInstruction giveFields decodePart decodeBlock
     closeParts readyDelete ready nextFreed without freeEntry collectEntry holdOf enquireHold decoderCall
     sentSize startEncoder serves servesBoth dynamicName staticName chooseName dynamicField staticField choose insertAt insertEntry
-    deleteAt deleteFound deleteSent mentions referred refer writePart encodePart encodeBlock acknowledgeFound readAck
+    markDeleted deleteFound deleteSent mentions referred refer writePart encodePart encodeBlock acknowledgeFound readAck
     encoderCall partTurn decoderCallOf encoderCallOf see seenFrom fresh
 computed encoderLimit decoderLimit cs = seenFrom (fresh encoderLimit decoderLimit) cs

@@ -66,8 +66,8 @@ asWritten stream part s out w =
     eqb (w .stream) stream && eqb (w .part) part && same (w .bytes) s && leb (length (w .list)) (length out)
 
 -- the k-th block is the non-trailer block of the stream, and was answered "done"
-abbrev pub acceptedPlain : Past → ℕ → ℕ → Written → Bool
-acceptedPlain P stream k w = eqb (w .stream) stream && eqb (w .part) 0 && P .accepted k
+abbrev pub acceptedNontrailer : Past → ℕ → ℕ → Written → Bool
+acceptedNontrailer P stream k w = eqb (w .stream) stream && eqb (w .part) 0 && P .accepted k
 
 -- the n-th block is of another stream, or was answered "done"
 abbrev pub otherOrAccepted : Past → ℕ → ℕ → Written → Bool
@@ -84,7 +84,7 @@ abbrev pub keepsRead : List Written → Past → ℕ → DecoderCall → Result 
 keepsRead ever P n (calls.DecoderCall.read s) r = begins s (P .management)
 keepsRead ever P n (calls.DecoderCall.block stream part s out) r =
     passes (asWritten stream part s out) (at n (P .written)) && not (P .accepted n)
-    && (not (eqb part 1) || anyAt (acceptedPlain P stream) (P .written)) && not (P .reset stream)
+    && (not (eqb part 1) || anyAt (acceptedNontrailer P stream) (P .written)) && not (P .reset stream)
 keepsRead ever P n (calls.DecoderCall.close ended stream) r =
     not (eqb (r .answer .number) 0) || (allAt (otherOrAccepted P stream) ever || P .reset stream)
 keepsRead ever P n (calls.DecoderCall.collect out) r = true

@@ -20,7 +20,7 @@ use Rattle.link.specs.Calls.{DecoderCall}
 use Rattle.link.specs.Calls as calls
 use Rattle.link.specs.Claims.{Event, byEncoder, byDecoder, Written, writtenIn, Accepted, Rules}
 use Rattle.link_examples.proofs.ListTests.{any, anyAt, allAt, passes, passes-some, any-member, member-any, anyAt-place, allAt-place}
-use Rattle.link_examples.proofs.RulesCheck.{begins, isAccepted, isDone, isReset, past, asWritten, acceptedPlain, otherOrAccepted, keepsEvent, keepsFrom, keeps}
+use Rattle.link_examples.proofs.RulesCheck.{begins, isAccepted, isDone, isReset, past, asWritten, acceptedNontrailer, otherOrAccepted, keepsEvent, keepsFrom, keeps}
 
 -- ---- what the tests say
 begins-sound : (s l : List ℕ) → begins s l ≡ true → (rest : List ℕ) × (l ≡ s ++ rest)
@@ -85,12 +85,12 @@ module _ (es : List Event) (k : keeps es ≡ true) where
   module _ (xs ys : List Event) (n stream part : ℕ) (s out : List ℕ) (r : Result) (p : es ≡ xs ++ (byDecoder n (calls.DecoderCall.block stream part s out) r ∷ ys)) where
     -- what the test says of an offered block
     offer-keeps : (passes (asWritten stream part s out) (at n (writtenIn xs)) ≡ true) × (not (any (isDone n) xs) ≡ true)
-        × (not (eqb part 1) || anyAt (acceptedPlain (past xs) stream) (writtenIn xs) ≡ true) × (not (any (isReset stream) xs) ≡ true)
+        × (not (eqb part 1) || anyAt (acceptedNontrailer (past xs) stream) (writtenIn xs) ≡ true) × (not (any (isReset stream) xs) ≡ true)
     unfolding past
     offer-keeps =
         let W = passes (asWritten stream part s out) (at n (writtenIn xs)) in
         let N = not (any (isDone n) xs) in
-        let T = not (eqb part 1) || anyAt (acceptedPlain (past xs) stream) (writtenIn xs) in
+        let T = not (eqb part 1) || anyAt (acceptedNontrailer (past xs) stream) (writtenIn xs) in
         let h = and-both (W && N && T) (not (any (isReset stream) xs)) (at-event xs ys (byDecoder n (calls.DecoderCall.block stream part s out) r) p) in
         let g = and-both (W && N) T (h .0) in
         let f = and-both W N (g .0) in
@@ -125,7 +125,7 @@ module _ (es : List Event) (k : keeps es ≡ true) where
       → (j : ℕ) × (w : Written) × (at j (writtenIn xs) ≡ some w) × (w .stream ≡ stream) × (w .part ≡ 0) × Accepted j xs
   unfolding past
   trailers xs ys n stream s out r p =
-      let q = anyAt-place (acceptedPlain (past xs) stream) (writtenIn xs) (offer-keeps xs ys n stream 1 s out r p .2) in
+      let q = anyAt-place (acceptedNontrailer (past xs) stream) (writtenIn xs) (offer-keeps xs ys n stream 1 s out r p .2) in
       let j = q .0 in
       let w = q .1 in
       let h = and-both (eqb (w .stream) stream && eqb (w .part) 0) (any (isDone j) xs) (q .3) in

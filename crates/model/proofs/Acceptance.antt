@@ -32,7 +32,7 @@ use Rattle.model.proofs.AcceptanceCalls.{
   field,
   insert-h9,
   deleteWith,
-  delete-plain,
+  delete-nontrailer,
   delete-trailer,
   past,
   past-trailer,
@@ -104,8 +104,8 @@ stored-whole = refl
 -- 10: "After 4, with streams 0 to 4 past their non-trailer part, the entry is ready as soon as 3E 05 00 00 00 is read." So the list
 -- names the streams below its horizon, 5, and not the horizon itself. With stream 4 unfinished it is not ready.
 pub ready-below-horizon :
-    (freed 68 (insert-h9 62 ∷ past 0 ∷ past 1 ∷ past 2 ∷ past 3 ∷ past 4 ∷ delete-plain 5 ∷ collect 16 ∷ []) ≡ 62 ∷ []) ×
-    (freed 68 (insert-h9 62 ∷ past 0 ∷ past 1 ∷ past 2 ∷ past 3 ∷ delete-plain 5 ∷ collect 16 ∷ []) ≡ [])
+    (freed 68 (insert-h9 62 ∷ past 0 ∷ past 1 ∷ past 2 ∷ past 3 ∷ past 4 ∷ delete-nontrailer 5 ∷ collect 16 ∷ []) ≡ 62 ∷ []) ×
+    (freed 68 (insert-h9 62 ∷ past 0 ∷ past 1 ∷ past 2 ∷ past 3 ∷ delete-nontrailer 5 ∷ collect 16 ∷ []) ≡ [])
 unfolding freed
 ready-below-horizon = (refl, refl)
 
@@ -118,26 +118,26 @@ ready-trailer = (refl, refl)
 
 -- "A collect call frees the ready entry of lowest index and writes its Delete-Ack": each time, also where an index is used again.
 pub freed-again :
-    freed 68 (insert-h9 62 ∷ delete-plain 0 ∷ collect 16 ∷ insert-h9 62 ∷ delete-plain 0 ∷ collect 16 ∷ []) ≡ 62 ∷ 62 ∷ []
+    freed 68 (insert-h9 62 ∷ delete-nontrailer 0 ∷ collect 16 ∷ insert-h9 62 ∷ delete-nontrailer 0 ∷ collect 16 ∷ []) ≡ 62 ∷ 62 ∷ []
 unfolding freed
 freed-again = refl
 
 pub freed-lowest :
-    freed 68 (insert-h9 62 ∷ insert-h9 63 ∷ read (delete 63 (emptyList 0) (emptyList 0)) 6 ∷ delete-plain 0 ∷ collect 16 ∷ collect 16 ∷ []) ≡
+    freed 68 (insert-h9 62 ∷ insert-h9 63 ∷ read (delete 63 (emptyList 0) (emptyList 0)) 6 ∷ delete-nontrailer 0 ∷ collect 16 ∷ collect 16 ∷ []) ≡
     62 ∷ 63 ∷ []
 unfolding freed
 freed-lowest = refl
 
 -- a delete goes with its entry: the next entry at that index is not freed before a delete of its own, which is taken
 pub deleted-anew :
-    decoderAnswers 68 (insert-h9 62 ∷ delete-plain 0 ∷ collect 16 ∷ insert-h9 62 ∷ collect 16 ∷ delete-plain 0 ∷ collect 16 ∷ []) ≡
+    decoderAnswers 68 (insert-h9 62 ∷ delete-nontrailer 0 ∷ collect 16 ∷ insert-h9 62 ∷ collect 16 ∷ delete-nontrailer 0 ∷ collect 16 ∷ []) ≡
     done 6 0 ∷ done 5 0 ∷ done 1 0 ∷ done 6 0 ∷ done 0 0 ∷ done 5 0 ∷ done 1 0 ∷ []
 unfolding decoderAnswers
 deleted-anew = refl
 
 -- "with none ready it is done, writes 0 bytes and changes nothing": no entry under deletion, one that is not ready, and it still serves
 pub none-freed :
-    decoderAnswers 68 (insert-h9 62 ∷ collect 16 ∷ delete-plain 1 ∷ collect 16 ∷ refers-62 ∷ collect 16 ∷ []) ≡
+    decoderAnswers 68 (insert-h9 62 ∷ collect 16 ∷ delete-nontrailer 1 ∷ collect 16 ∷ refers-62 ∷ collect 16 ∷ []) ≡
     done 6 0 ∷ done 0 0 ∷ done 5 0 ∷ done 0 0 ∷ done 5 0 ∷ done 1 0 ∷ []
 unfolding decoderAnswers
 none-freed = refl
@@ -146,7 +146,7 @@ none-freed = refl
 
 -- "A hold enquiry about an entry under deletion tells how many named parts are unfinished and the lowest stream having one (4,096 if none)."
 pub hold-told :
-    decoderAnswers 68 (insert-h9 62 ∷ delete-plain 5 ∷ hold 62 ∷ past 0 ∷ past 1 ∷ hold 62 ∷ past 2 ∷ past 3 ∷ past 4 ∷ hold 62 ∷ []) ≡
+    decoderAnswers 68 (insert-h9 62 ∷ delete-nontrailer 5 ∷ hold 62 ∷ past 0 ∷ past 1 ∷ hold 62 ∷ past 2 ∷ past 3 ∷ past 4 ∷ hold 62 ∷ []) ≡
     done 6 0 ∷ done 5 0 ∷ done 5 0 ∷ done 0 0 ∷ done 0 0 ∷ done 3 2 ∷ done 0 0 ∷ done 0 0 ∷ done 0 0 ∷ done 0 4096 ∷ []
 unfolding decoderAnswers
 hold-told = refl
@@ -222,7 +222,7 @@ limit-kept = (refl, refl, refl, refl)
 
 -- "The held size is the sum over all entries held, those under deletion included." After the collect there is room again.
 pub deleted-counted-decoder :
-    decoderAnswers 68 (insert-h9 62 ∷ insert-h9 63 ∷ delete-plain 0 ∷ insert-h9 64 ∷ collect 16 ∷ insert-h9 64 ∷ []) ≡
+    decoderAnswers 68 (insert-h9 62 ∷ insert-h9 63 ∷ delete-nontrailer 0 ∷ insert-h9 64 ∷ collect 16 ∷ insert-h9 64 ∷ []) ≡
     done 6 0 ∷ done 6 0 ∷ done 5 0 ∷ refusal 7 ∷ done 1 0 ∷ done 6 0 ∷ []
 unfolding decoderAnswers
 deleted-counted-decoder = refl
@@ -258,7 +258,7 @@ entry-by-history = (refl, refl, refl, refl)
 
 -- "A delete is kept with its lists", and goes with its entry
 pub deletion-by-history :
-    (deletionAfter three 62 ≡ some (record { index = 62; plain = list-3-4-7; trailer = emptyList 1 })) ×
+    (deletionAfter three 62 ≡ some (record { index = 62; nontrailer = list-3-4-7; trailer = emptyList 1 })) ×
     (deletionAfter three 63 ≡ none) ×
     (deletionAfter then-freed 62 ≡ none)
 unfolding deletionAfter

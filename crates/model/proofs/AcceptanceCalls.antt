@@ -47,7 +47,7 @@ abbrev pub acknowledged : List Output → List ℕ
 acknowledged [] = []
 acknowledged (instruction (acknowledge i) ∷ os) = i ∷ acknowledged os
 acknowledged (instruction (insert i name value) ∷ os) = acknowledged os
-acknowledged (instruction (delete i plain last) ∷ os) = acknowledged os
+acknowledged (instruction (delete i first last) ∷ os) = acknowledged os
 acknowledged (nothing ∷ os) = acknowledged os
 acknowledged (outcome.Output.block rs ∷ os) = acknowledged os
 acknowledged (fields fs ∷ os) = acknowledged os
@@ -104,11 +104,11 @@ abbrev pub insert-h9 : ℕ → DecoderCall
 insert-h9 i = read (insert i (by-bytes (bytes "h")) (bytes "9")) 6
 
 abbrev pub deleteWith : StreamList → StreamList → DecoderCall
-deleteWith plain last = read (delete 62 plain last) 5
+deleteWith first last = read (delete 62 first last) 5
 
 -- with horizon n as first or as second list
-abbrev pub delete-plain : ℕ → DecoderCall
-delete-plain n = deleteWith (emptyList n) (emptyList 0)
+abbrev pub delete-nontrailer : ℕ → DecoderCall
+delete-nontrailer n = deleteWith (emptyList n) (emptyList 0)
 
 abbrev pub delete-trailer : ℕ → DecoderCall
 delete-trailer n = deleteWith (emptyList 0) (emptyList n)
@@ -145,7 +145,7 @@ abbrev pub said-insert : Output
 said-insert = instruction (insert 62 (by-bytes (bytes "h")) (bytes "9"))
 
 abbrev pub said-delete : ℕ → ℕ → Output
-said-delete plain last = instruction (delete 62 (emptyList plain) (emptyList last))
+said-delete first last = instruction (delete 62 (emptyList first) (emptyList last))
 
 abbrev pub wrote : Representation → Output
 wrote r = outcome.Output.block (r ∷ [])

@@ -8,7 +8,7 @@ use Rattle.wire.specs.Text.{stringWire}
 use Rattle.wire.specs.Name.{nameWire}
 use Rattle.wire.specs.StreamList.{names, listed, listWire, deltasWire}
 use Rattle.statics.specs.Table.{entries, entryAt}
-use Rattle.statics.specs.Search.{hasName, hasBoth, lowest as lowest-static, lowestName, lowestBoth}
+use Rattle.statics.specs.Search.{hasName, hasBoth, lowestStatic as lowest-static, lowestName, lowestBoth}
 use Rattle.fields.specs.Form.{textForm, fieldForm, listForm}
 use Rattle.instructions.specs.Instruction.{instructionWire}
 use Rattle.blocks.specs.Representation.{representationWire, blockWire}
@@ -19,7 +19,7 @@ use Rattle.model.specs.Decoder.{heldSize, slotIn, lookup, deleteOf, star
 use Rattle.model.specs.Decoder.{readInstruction, giveFields, decodePart, decodeBlock, closeParts, readyDelete, ready, nextFreed, without}
 use Rattle.model.specs.Decoder.{freeEntry, collectEntry}
 use Rattle.model.specs.Encoder.{sentSize, startEncoder, serves, servesBoth, dynamicName, staticName, chooseName, dynamicField, staticField}
-use Rattle.model.specs.Encoder.{choose, insertAt, insertEntry, deleteAt, deleteFound, deleteSent, mentions, referred, refer, writePart}
+use Rattle.model.specs.Encoder.{choose, insertAt, insertEntry, markDeleted, deleteFound, deleteSent, mentions, referred, refer, writePart}
 use Rattle.model.specs.Encoder.{encodePart, encodeBlock, acknowledgeFound, readAck}
 use Rattle.model.specs.EncoderCalls.{encoderCall}
 use Rattle.model.specs.Events.{LinkCall, Event, saidBy, wroteBy, encoderEvent, freedBy, toldBy, decoderEvent, turn, events, endsAfter, fresh}
@@ -31,6 +31,6 @@ unfolding same intWire groupWire stringWire nameWire names listed listWire delta
     heldSize slotIn lookup deleteOf startDecoder slotName nameBytes insertNamed deleteEntry readInstruction giveFields decodePart decodeBlock
     closeParts readyDelete ready nextFreed without freeEntry collectEntry
     sentSize startEncoder serves servesBoth dynamicName staticName chooseName dynamicField staticField choose insertAt insertEntry
-    deleteAt deleteFound deleteSent mentions referred refer writePart encodePart encodeBlock acknowledgeFound readAck
+    markDeleted deleteFound deleteSent mentions referred refer writePart encodePart encodeBlock acknowledgeFound readAck
     encoderCall saidBy wroteBy encoderEvent freedBy toldBy decoderEvent turn events endsAfter fresh
 run encoderLimit decoderLimit cs = events (fresh encoderLimit decoderLimit) cs

@@ -104,7 +104,7 @@ deleteEntry D d taken =
 -- an acknowledgement never comes here: the decoder's reader answers it with 5
 unfoldable pub readInstruction : Decoder → Instruction → ℕ → Outcome Decoder
 readInstruction D (insert i name value) taken = insertNamed D i value taken (nameBytes (lookup D) name)
-readInstruction D (delete i plain trailer) taken = deleteEntry D (record { index = i; plain = plain; trailer = trailer }) taken
+readInstruction D (delete i nontrailer trailer) taken = deleteEntry D (record { index = i; nontrailer = nontrailer; trailer = trailer }) taken
 readInstruction D (acknowledge i) taken = refuse D not-allowed
 
 -- ---- a block: "11, .. 1, 12". "A non-trailer block answered "done" finishes its part .. the same for the trailer."
@@ -170,7 +170,7 @@ pub record FineHeld (h : Held) : Type 0 where
   pub value : length (h .entry .value) ≤ 2047
 
 pub record FineDelete (D : Decoder) (d : Delete) : Type 0 where
-  pub plain : FineList (d .plain)
+  pub nontrailer : FineList (d .nontrailer)
   pub trailer : FineList (d .trailer)
   pub held : isSome (look heldIndex (d .index) (D .entries)) ≡ true
 

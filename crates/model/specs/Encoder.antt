@@ -28,19 +28,19 @@ use Rattle.model.specs.Outcome.{nothing, instruction, block, Outcome, re
 pub record Sent : Type 0 where
   pub index : ℕ
   pub entry : Entry
-  pub plain : ℕ
+  pub nontrailer : ℕ
   pub trailer : ℕ
   pub deleted : Bool
 
 -- with a horizon changed, or put under deletion
-abbrev pub withPlain : Sent → ℕ → Sent
-withPlain e horizon = record { index = e .index; entry = e .entry; plain = horizon; trailer = e .trailer; deleted = e .deleted }
+abbrev pub withNontrailer : Sent → ℕ → Sent
+withNontrailer e horizon = record { index = e .index; entry = e .entry; nontrailer = horizon; trailer = e .trailer; deleted = e .deleted }
 
 abbrev pub withTrailer : Sent → ℕ → Sent
-withTrailer e horizon = record { index = e .index; entry = e .entry; plain = e .plain; trailer = horizon; deleted = e .deleted }
+withTrailer e horizon = record { index = e .index; entry = e .entry; nontrailer = e .nontrailer; trailer = horizon; deleted = e .deleted }
 
 abbrev pub asDeleted : Sent → Sent
-asDeleted e = record { index = e .index; entry = e .entry; plain = e .plain; trailer = e .trailer; deleted = true }
+asDeleted e = record { index = e .index; entry = e .entry; nontrailer = e .nontrailer; trailer = e .trailer; deleted = true }
 
 abbrev pub sentIndex : Sent → ℕ
 sentIndex e = e .index
@@ -103,7 +103,7 @@ choose l f = pick (eqb (f .flag) 1) (literal 1 (chooseName l (f .name)) (f .valu
 
 -- ---- insert: "13, 7, 15, 12". It tells the bytes written and the new index, "the lowest from 62 that is not held".
 abbrev pub newSent : ℕ → List ℕ → List ℕ → Sent
-newSent i name value = record { index = i; entry = record { name = name; value = value }; plain = 0; trailer = 0; deleted = false }
+newSent i name value = record { index = i; entry = record { name = name; value = value }; nontrailer = 0; trailer = 0; deleted = false }
 
 unfoldable pub insertAt : Encoder → ℕ → List ℕ → List ℕ → ℕ → Outcome Encoder
 insertAt E i name value room =
@@ -124,18 +124,18 @@ abbrev pub emptyList : ℕ → StreamList
 emptyList horizon = record { horizon = horizon; streams = [] }
 
 -- the entry with index i put under deletion
-unfoldable pub deleteAt : ℕ → Sent → Sent
-deleteAt i e = pick (eqb (e .index) i) (asDeleted e) e
+unfoldable pub markDeleted : ℕ → Sent → Sent
+markDeleted i e = pick (eqb (e .index) i) (asDeleted e) e
 
 abbrev pub deleteOfSent : Sent → Instruction
-deleteOfSent e = delete (e .index) (emptyList (e .plain)) (emptyList (e .trailer))
+deleteOfSent e = delete (e .index) (emptyList (e .nontrailer)) (emptyList (e .trailer))
 
 unfoldable pub deleteFound : Encoder → ℕ → Option Sent → Outcome Encoder
 deleteFound E room none = refuse E vacant
 deleteFound E room (some e) =
     need (not (e .deleted)) (refuse E under-deletion)
     (need (leb (length (instructionWire (deleteOfSent e))) room) (refuse E no-room)
-    (finish (withSent E (map (deleteAt (e .index)) (E .entries))) (length (instructionWire (deleteOfSent e))) 0 (instruction (deleteOfSent e))))
+    (finish (withSent E (map (markDeleted (e .index)) (E .entries))) (length (instructionWire (deleteOfSent e))) 0 (instruction (deleteOfSent e))))
 
 unfoldable pub deleteSent : Encoder → ℕ → ℕ → Outcome Encoder
 deleteSent E i room =
@@ -151,7 +151,7 @@ mentions (j ∷ js) i = pick (eqb j i) true (mentions js i)
 
 -- "Each horizon is one more than the highest stream whose block of that kind refers to the entry, by index or for its name"
 unfoldable pub referred : ℕ → Part → Sent → Sent
-referred s nontrailer e = withPlain e (max (e .plain) (suc s))
+referred s nontrailer e = withNontrailer e (max (e .nontrailer) (suc s))
 referred s trailer e = withTrailer e (max (e .trailer) (suc s))
 
 unfoldable pub refer : ℕ → Part → List Representation → Sent → Sent
@@ -189,7 +189,7 @@ pub record FineSent (e : Sent) : Type 0 where
   pub high : e .index ≤ 189
   pub name : length (e .entry .name) ≤ 255
   pub value : length (e .entry .value) ≤ 2047
-  pub plain : e .plain ≤ 4096
+  pub nontrailer : e .nontrailer ≤ 4096
   pub trailer : e .trailer ≤ 4096
 
 pub record FormsEncoder (E : Encoder) : Type 0 where

@@ -81,7 +81,7 @@ encoderEvent (at-encoder.unread number) o = quiet
 unfoldable pub freedBy : Output → Event
 freedBy nothing = quiet
 freedBy (instruction (insert i name value)) = quiet
-freedBy (instruction (delete i plain last)) = quiet
+freedBy (instruction (delete i first last)) = quiet
 freedBy (instruction (acknowledge i)) = freed i
 freedBy (block rs) = quiet
 freedBy (fields fs) = quiet

@@ -24,7 +24,7 @@ pub data Happened : Type 0 where
 -- what an instruction does to the table of the end that reads it
 abbrev pub doneBy : Instruction → List Happened
 doneBy (insert i name value) = inserted i name value ∷ []
-doneBy (delete i plain trailer) = deleted (record { index = i; plain = plain; trailer = trailer }) ∷ []
+doneBy (delete i nontrailer trailer) = deleted (record { index = i; nontrailer = nontrailer; trailer = trailer }) ∷ []
 doneBy (acknowledge i) = freed i ∷ []
 
 -- one after another

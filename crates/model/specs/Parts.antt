@@ -54,12 +54,12 @@ inTurn marks s trailer = marks s nontrailer && not (marks s trailer)
 -- a delete that was read, with its two lists
 pub record Delete : Type 0 where
   pub index : ℕ
-  pub plain : StreamList
+  pub nontrailer : StreamList
   pub trailer : StreamList
 
 -- "a stream list for non-trailer blocks and one for trailer blocks": the list names its own kind of part
 unfoldable pub namesPart : Delete → ℕ → Part → Bool
-namesPart d s nontrailer = names (d .plain) s
+namesPart d s nontrailer = names (d .nontrailer) s
 namesPart d s trailer = names (d .trailer) s
 
 -- a named part that is unfinished

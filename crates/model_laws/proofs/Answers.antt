@@ -34,8 +34,8 @@ silent s room a z = record { told = λ e. absurd (eqb-false (a .number) 0 z e); 
 read-refused : (D : Decoder) (i : Instruction) (taken : ℕ) → Unchanged D (readInstruction D i taken)
 read-refused D (insert i name value) taken =
     decoder.insert-ways (Unchanged D) D (λ a z h. (refl, refl)) i name value taken (λ xs e free fits few h. absurd (h refl))
-read-refused D (delete i plain trailer) taken =
-    decoder.delete-ways (Unchanged D) D (λ a z h. (refl, refl)) i plain trailer taken (λ entry there free h. absurd (h refl))
+read-refused D (delete i nontrailer trailer) taken =
+    decoder.delete-ways (Unchanged D) D (λ a z h. (refl, refl)) i nontrailer trailer taken (λ entry there free h. absurd (h refl))
 read-refused D (acknowledge i) taken = decoder.acknowledge-ways (Unchanged D) D (λ a z h. (refl, refl)) i taken
 
 pub decoder-refused : (D : Decoder) (c : DecoderCall) → Unchanged D (decoderCall D c)

@@ -25,7 +25,7 @@ use Rattle.model.specs.Parts.{Part, partOf, inTurn, Delete, streams}
 use Rattle.model.specs.Outcome.{Outcome, refuse, fields}
 use Rattle.model.specs.Decoder.{Held, heldIndex, deleteIndex, Decoder, slotIn, lookup, giveFields, decodePart, decodeBlock}
 use Rattle.model_laws.proofs.Tables.{nope}
-use Rattle.model_laws.proofs.Slots.Machine.{Item, given, byIndex, byName, BlockAnswer, gives, waitsFor, outOfTurn, entryIn, onEntry, fieldOf}
+use Rattle.model_laws.proofs.Slots.Machine.{Item, given, byIndex, byName, BlockAnswer, gives, waitsFor, outOfTurn, entryIn, onEntry, entryField}
 use Rattle.model_laws.proofs.Slots.Machine.{fieldNamed, names-index, names-name, names-later}
 use Rattle.model_laws.proofs.Slots.Machine as machine
 use Rattle.model_laws.proofs.View.{slotAt, slotsOf, tablesOf, slotItem, slotItems}
@@ -52,11 +52,11 @@ module _ (D : Decoder) (i : ℕ) (rest : List Item) (m : BlockMeaning) (h : mach
   abbrev slot : Bool → Slot
   slot b = pick b (holds (entryAt i)) (slotIn (look heldIndex i (D .entries)))
 
-  index-view : (b : Bool) → machine.meaning (slotsOf D) (pick b (given (fieldOf (entryAt i))) (byIndex i) ∷ rest)
-      ≡ asAnswer (afterField (onSlot i (slot b) fieldOf) m)
+  index-view : (b : Bool) → machine.meaning (slotsOf D) (pick b (given (entryField (entryAt i))) (byIndex i) ∷ rest)
+      ≡ asAnswer (afterField (onSlot i (slot b) entryField) m)
   unfolding machine.meaning slotsOf
-  index-view true = rw h (put-view (fieldOf (entryAt i)) m)
-  index-view false = rw h (one-view fieldOf i (look heldIndex i (D .entries)) (look deleteIndex i (D .deletes)) m)
+  index-view true = rw h (put-view (entryField (entryAt i)) m)
+  index-view false = rw h (one-view entryField i (look heldIndex i (D .entries)) (look deleteIndex i (D .deletes)) m)
 
   literal-view : (flag : ℕ) (value : List ℕ) (b : Bool)
       → machine.meaning (slotsOf D) (pick b (given (fieldNamed flag value (entryAt i))) (byName i flag value) ∷ rest)
@@ -138,7 +138,7 @@ here-name i j f flag value low false e h = (omega (arith, above-static j low e),
 pub refers-back : (rs : List Representation) → AllFine rs → (i : ℕ) → machine.NamesSlot i (slotItems rs) → (61 < i) × Refers rs i
 unfolding slotItems slotItem blockReferences
 refers-back (indexed j ∷ rs) a i m =
-    ⊎-elim (λ h. let e = here-index i j (fieldOf (entryAt j)) (a .0 .0) (isStatic j) refl h in (e .0, List·Memᴰ·head (sym (e .1))))
+    ⊎-elim (λ h. let e = here-index i j (entryField (entryAt j)) (a .0 .0) (isStatic j) refl h in (e .0, List·Memᴰ·head (sym (e .1))))
     (λ n. let r = refers-back rs (a .1) i n in (r .0, List·Memᴰ·tail (r .1))) (refers-cases (slotItem (indexed j)) (slotItems rs) i m)
 refers-back (literal flag (by-index j) value ∷ rs) a i m =
     ⊎-elim (λ h. let e = here-name i j (fieldNamed flag value (entryAt j)) flag value (a .0 .1 .0) (isStatic j) refl h in (e .0, List·Memᴰ·head (sym (e .1))))

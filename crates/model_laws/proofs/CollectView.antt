@@ -60,11 +60,11 @@ module _ (marks : Marks) where
   pub all-named : (d : Delete) → ((s : ℕ) (p : Part) → namesPart d s p ≡ true → marks s p ≡ true) → allMarked marks (namedParts (listsOf d)) ≡ true
   unfolding namedParts namesPart
   all-named d h =
-      all-append (partsBelow nontrailer (d .plain .horizon) ++ partsAmong nontrailer (d .plain .streams))
+      all-append (partsBelow nontrailer (d .nontrailer .horizon) ++ partsAmong nontrailer (d .nontrailer .streams))
       (partsBelow trailer (d .trailer .horizon) ++ partsAmong trailer (d .trailer .streams))
-      (all-list nontrailer (d .plain) (λ s e. h s nontrailer e)) (all-list trailer (d .trailer) (λ s e. h s trailer e))
+      (all-list nontrailer (d .nontrailer) (λ s e. h s nontrailer e)) (all-list trailer (d .trailer) (λ s e. h s trailer e))
 
-  pub ready-parts : (d : Delete) → FineList (d .plain) → FineList (d .trailer) → isReady marks d ≡ true → allMarked marks (namedParts (listsOf d)) ≡ true
+  pub ready-parts : (d : Delete) → FineList (d .nontrailer) → FineList (d .trailer) → isReady marks d ≡ true → allMarked marks (namedParts (listsOf d)) ≡ true
   ready-parts d p t r = all-named d (λ s q n. ready-marked marks d s q r (part-low d s q p t n) n)
 
   -- ---- and each of them, where all are finished
@@ -103,18 +103,18 @@ module _ (marks : Marks) where
   unfolding namedParts namesPart
   named-marked d h s p e = go p e
     where
-      both : (allMarked marks (partsBelow nontrailer (d .plain .horizon) ++ partsAmong nontrailer (d .plain .streams)) ≡ true)
+      both : (allMarked marks (partsBelow nontrailer (d .nontrailer .horizon) ++ partsAmong nontrailer (d .nontrailer .streams)) ≡ true)
           × (allMarked marks (partsBelow trailer (d .trailer .horizon) ++ partsAmong trailer (d .trailer .streams)) ≡ true)
       both =
-          all-parts (partsBelow nontrailer (d .plain .horizon) ++ partsAmong nontrailer (d .plain .streams))
+          all-parts (partsBelow nontrailer (d .nontrailer .horizon) ++ partsAmong nontrailer (d .nontrailer .streams))
           (partsBelow trailer (d .trailer .horizon) ++ partsAmong trailer (d .trailer .streams)) h
 
       go : (q : Part) → namesPart d s q ≡ true → marks s q ≡ true
-      go nontrailer n = list-marked nontrailer (d .plain) (both .0) s n
+      go nontrailer n = list-marked nontrailer (d .nontrailer) (both .0) s n
       go trailer n = list-marked trailer (d .trailer) (both .1) s n
 
   -- a delete is ready exactly where all that it names is finished
-  pub ready-view : (d : Delete) → FineList (d .plain) → FineList (d .trailer) → isReady marks d ≡ allMarked marks (namedParts (listsOf d))
+  pub ready-view : (d : Delete) → FineList (d .nontrailer) → FineList (d .trailer) → isReady marks d ≡ allMarked marks (namedParts (listsOf d))
   ready-view d p t =
       ⊎-elim (λ r. r ∙ sym (ready-parts d p t r))
       (λ (o : OpenPart marks d streams).
@@ -148,7 +148,7 @@ module _ (D : Decoder) (F : FormsDecoder D) (h : Held) (there : look heldIndex (
       record {
         lists = listsOf d;
         was = slot;
-        all = ready-parts (D .finished) d (fine .plain) (fine .trailer) r;
+        all = ready-parts (D .finished) d (fine .nontrailer) (fine .trailer) r;
         fits = omega arith;
         view = λ k. withSlots (tablesOf D) (t k) (w k);
       }

@@ -123,7 +123,7 @@ module _ (D : Decoder) (F : FormsDecoder D) where
         sizes = let s = ap sizeIn entry in let t = total-put heldIndex heldWeight h (D .entries) in omega (arith, s, t);
       }
 
-  deleted : (d : Delete) → deleteOf D (d .index) ≡ none → Told D (doneBy (delete (d .index) (d .plain) (d .trailer))) (ways.withDelete D d)
+  deleted : (d : Delete) → deleteOf D (d .index) ≡ none → Told D (doneBy (delete (d .index) (d .nontrailer) (d .trailer))) (ways.withDelete D d)
   unfolding after contentsBy heldBy deletionBy deleteOf sumOf addedBy removedBy look
   deleted d n = record {
     entries = refl;
@@ -169,9 +169,9 @@ unfolding decoderCall didBy wroteThat
 told-call D F (at-decoder.read (insert i name value) taken) =
     ways.insert-ways (ToldBy D (at-decoder.read (insert i name value) taken)) D (λ a z. unread D (doneBy (insert i name value)) a z) i name value taken
     (λ xs e n f g. inserted D F i name xs value e n)
-told-call D F (at-decoder.read (delete i plain last) taken) =
-    ways.delete-ways (ToldBy D (at-decoder.read (delete i plain last) taken)) D (λ a z. unread D (doneBy (delete i plain last)) a z) i plain last taken
-    (λ h e f. deleted D F (record { index = i; plain = plain; trailer = last }) f)
+told-call D F (at-decoder.read (delete i first last) taken) =
+    ways.delete-ways (ToldBy D (at-decoder.read (delete i first last) taken)) D (λ a z. unread D (doneBy (delete i first last)) a z) i first last taken
+    (λ h e f. deleted D F (record { index = i; nontrailer = first; trailer = last }) f)
 told-call D F (at-decoder.read (acknowledge i) taken) =
     ways.acknowledge-ways (ToldBy D (at-decoder.read (acknowledge i) taken)) D (λ a z. unread D (doneBy (acknowledge i)) a z) i taken
 told-call D F (at-decoder.block s part rs room) =

@@ -61,12 +61,12 @@ module _ {κ} (R : Outcome Decoder → Type κ) (D : Decoder)
           (λ g. need-both R (ltb (length (D .entries)) 128) _ _ (λ h. refused (refusal full) refl)
           (λ h. inserted xs e (none-found (look heldIndex i (D .entries)) f) (leb-true _ _ g) (ltb-true _ _ h))))
 
-  pub delete-ways : (i : ℕ) (plain trailer : StreamList) (taken : ℕ)
+  pub delete-ways : (i : ℕ) (nontrailer trailer : StreamList) (taken : ℕ)
       → ((h : Held) → look heldIndex i (D .entries) ≡ some h → deleteOf D i ≡ none
-      → R (finish (withDelete D (record { index = i; plain = plain; trailer = trailer })) taken 0 nothing))
-      → R (readInstruction D (delete i plain trailer) taken)
+      → R (finish (withDelete D (record { index = i; nontrailer = nontrailer; trailer = trailer })) taken 0 nothing))
+      → R (readInstruction D (delete i nontrailer trailer) taken)
   unfolding readInstruction deleteEntry
-  delete-ways i plain trailer taken deleted =
+  delete-ways i nontrailer trailer taken deleted =
       need-both R (isSome (look heldIndex i (D .entries))) _ _ (λ f. refused (refusal vacant) refl)
       (λ f. need-both R (not (isSome (deleteOf D i))) _ _ (λ g. refused (refusal under-deletion) refl)
       (λ g. let h = some-found (look heldIndex i (D .entries)) f in deleted (h .0) (h .1) (none-found (deleteOf D i) g)))

@@ -23,7 +23,7 @@ use Rattle.model.specs.Parts.{Part, nontrailer, trailer}
 use Rattle.model.specs.Encoder.{Sent, sentIndex, choose, mentions, referred, refer}
 use Rattle.model_laws.proofs.Tables.{nope, pick-eq, pick-yes, look-index, look-map}
 use Rattle.model_laws.proofs.Order.{refer-index}
-use Rattle.model_laws.proofs.Slots.Machine.{StreamPart, partsBelow, partsAmong, namedParts, fieldOf, fieldNamed}
+use Rattle.model_laws.proofs.Slots.Machine.{StreamPart, partsBelow, partsAmong, namedParts, entryField, fieldNamed}
 use Rattle.model_laws.proofs.Slots.Messages.{liveSent}
 use Rattle.model_laws.proofs.Slots.Invariant.{MeantItem, meantGiven, meantIndex, meantName, EachReference, references-map}
 use Rattle.model_laws.proofs.Slots.Referring.{Grows, Grown, NewReference}
@@ -54,25 +54,25 @@ below-more p n m q h k =
     let r = below-is p n q k in
     Memᴰ·cast (λ i. record { stream = q .stream; part = r .0 i }) (below-has p (q .stream) m (let z = r .1 in omega arith))
 
-parts-of : (e : Sent) → namedParts (listsSent e) ≡ partsBelow nontrailer (e .plain) ++ partsBelow trailer (e .trailer)
+parts-of : (e : Sent) → namedParts (listsSent e) ≡ partsBelow nontrailer (e .nontrailer) ++ partsBelow trailer (e .trailer)
 unfolding namedParts partsAmong
-parts-of e = rw (append-nil (partsBelow nontrailer (e .plain)), append-nil (partsBelow trailer (e .trailer)))
+parts-of e = rw (append-nil (partsBelow nontrailer (e .nontrailer)), append-nil (partsBelow trailer (e .trailer)))
 
-more : (d e : Sent) (q : StreamPart) → d .plain ≤ e .plain → d .trailer ≤ e .trailer → List·Memᴰ q (namedParts (listsSent d))
+more : (d e : Sent) (q : StreamPart) → d .nontrailer ≤ e .nontrailer → d .trailer ≤ e .trailer → List·Memᴰ q (namedParts (listsSent d))
     → List·Memᴰ q (namedParts (listsSent e))
-more d e q h k m = rw (parts-of e) (go (List·Memᴰ·append-cases (partsBelow nontrailer (d .plain)) (rw (parts-of d) at m)))
+more d e q h k m = rw (parts-of e) (go (List·Memᴰ·append-cases (partsBelow nontrailer (d .nontrailer)) (rw (parts-of d) at m)))
   where
-    go : List·Memᴰ q (partsBelow nontrailer (d .plain)) ⊎ List·Memᴰ q (partsBelow trailer (d .trailer))
-        → List·Memᴰ q (partsBelow nontrailer (e .plain) ++ partsBelow trailer (e .trailer))
-    go (inl x) = Memᴰ·append-left (partsBelow trailer (e .trailer)) (below-more nontrailer (d .plain) (e .plain) q h x)
-    go (inr x) = Memᴰ·append-right (partsBelow nontrailer (e .plain)) (below-more trailer (d .trailer) (e .trailer) q k x)
+    go : List·Memᴰ q (partsBelow nontrailer (d .nontrailer)) ⊎ List·Memᴰ q (partsBelow trailer (d .trailer))
+        → List·Memᴰ q (partsBelow nontrailer (e .nontrailer) ++ partsBelow trailer (e .trailer))
+    go (inl x) = Memᴰ·append-left (partsBelow trailer (e .trailer)) (below-more nontrailer (d .nontrailer) (e .nontrailer) q h x)
+    go (inr x) = Memᴰ·append-right (partsBelow nontrailer (e .nontrailer)) (below-more trailer (d .trailer) (e .trailer) q k x)
 
 referred-has : (s : ℕ) (p : Part) (e : Sent) → List·Memᴰ (record { stream = s; part = p }) (namedParts (listsSent (referred s p e)))
 unfolding referred
 referred-has s nontrailer e =
-    rw (parts-of (referred s nontrailer e)) (Memᴰ·append-left _ (below-has nontrailer s (max (e .plain) (suc s)) (omega arith)))
+    rw (parts-of (referred s nontrailer e)) (Memᴰ·append-left _ (below-has nontrailer s (max (e .nontrailer) (suc s)) (omega arith)))
 referred-has s trailer e =
-    rw (parts-of (referred s trailer e)) (Memᴰ·append-right (partsBelow nontrailer (e .plain)) (below-has trailer s (max (e .trailer) (suc s)) (omega arith)))
+    rw (parts-of (referred s trailer e)) (Memᴰ·append-right (partsBelow nontrailer (e .nontrailer)) (below-has trailer s (max (e .trailer) (suc s)) (omega arith)))
 
 referred-more : (s : ℕ) (p : Part) (e : Sent) (q : StreamPart) → List·Memᴰ q (namedParts (listsSent e)) → List·Memᴰ q (namedParts (listsSent (referred s p e)))
 unfolding referred
@@ -106,7 +106,7 @@ module _ (l : List Sent) (P : ℕ → Entry → Type 0) where
   mentioned i h (indexed j ∷ rs) r m =
       let c : Entry = entryOf (look sentIndex j l) in
       pick-eq (λ (t : Bool). t ≡ true → (c : Entry) × P i c) j i true (mentions (blockReferences rs) i)
-      (λ e k. (c, dynamic i j h (fieldOf (entryAt j)) (meantIndex j c) c (meantBy l rs) (λ u. u .0) r e))
+      (λ e k. (c, dynamic i j h (entryField (entryAt j)) (meantIndex j c) c (meantBy l rs) (λ u. u .0) r e))
       (λ e k. mentioned i h rs (refs-tail P (meant l (indexed j)) (meantBy l rs) r) k) m
   mentioned i h (literal flag (by-index j) v ∷ rs) r m =
       let c : Entry = entryOf (look sentIndex j l) in
@@ -132,7 +132,7 @@ module _ (l : List Sent) (P : ℕ → Entry → Type 0) where
   mentions-all [] r = tt
   mentions-all (indexed j ∷ rs) r =
       pick-both (λ (x : MeantItem). EachReference P (x ∷ meantBy l rs) → EachReference (Behind j rs) (x ∷ meantBy l rs)) (isStatic j)
-      (meantGiven (fieldOf (entryAt j)))
+      (meantGiven (entryField (entryAt j)))
       (meantIndex j (entryOf (look sentIndex j l)))
       (λ t u. behind j rs (meantBy l rs) (mentions-all rs u))
       (λ t u. ((u .0, pick-yes j j true (mentions (blockReferences rs) j) refl), behind j rs (meantBy l rs) (mentions-all rs (u .1)))) r

@@ -25,7 +25,7 @@ use Rattle.blocks.proofs.MeaningHeld.{static-within, static-above}
 use Rattle.model.specs.Table.{Ascending, look, lowest}
 use Rattle.model.specs.Encoder.{Sent, sentIndex, serves, servesBoth, dynamicName, staticName, chooseName, dynamicField, staticField, choose}
 use Rattle.model_laws.proofs.Tables.{nope, look-below, lowest-sound}
-use Rattle.model_laws.proofs.Slots.Machine.{Item, given, byIndex, byName, fieldOf, fieldNamed}
+use Rattle.model_laws.proofs.Slots.Machine.{Item, given, byIndex, byName, entryField, fieldNamed}
 use Rattle.model_laws.proofs.Slots.Invariant.{MeantItem, meantGiven, meantIndex, meantName, asItems, fieldsOf, EachReference}
 use Rattle.model_laws.proofs.View.{slotItem, slotItems}
 use Rattle.model_laws.proofs.Marks.{and-both}
@@ -38,7 +38,7 @@ entryOf (some e) = e .entry
 
 unfoldable pub meant : List Sent → Representation → MeantItem
 unfolding entryOf
-meant l (indexed i) = pick (isStatic i) (meantGiven (fieldOf (entryAt i))) (meantIndex i (entryOf (look sentIndex i l)))
+meant l (indexed i) = pick (isStatic i) (meantGiven (entryField (entryAt i))) (meantIndex i (entryOf (look sentIndex i l)))
 meant l (literal flag (by-index i) value) =
     pick (isStatic i) (meantGiven (fieldNamed flag value (entryAt i))) (meantName i (entryOf (look sentIndex i l)) flag value)
 meant l (literal flag (by-bytes name) value) = meantGiven (record { flag = flag; name = name; value = value })
@@ -52,24 +52,24 @@ abbrev pub meantItems : List Sent → List Field → List MeantItem
 meantItems l fs = meantBy l (map (choose l) fs)
 
 -- without them it is what is written
-plain-pick : (b : Bool) (x y : MeantItem) (u v : Item) (m : List MeantItem) → asItems (x ∷ m) ≡ u ∷ asItems m → asItems (y ∷ m) ≡ v ∷ asItems m
+nontrailer-pick : (b : Bool) (x y : MeantItem) (u v : Item) (m : List MeantItem) → asItems (x ∷ m) ≡ u ∷ asItems m → asItems (y ∷ m) ≡ v ∷ asItems m
     → asItems (pick b x y ∷ m) ≡ pick b u v ∷ asItems m
-plain-pick true x y u v m h k = h
-plain-pick false x y u v m h k = k
+nontrailer-pick true x y u v m h k = h
+nontrailer-pick false x y u v m h k = k
 
-pub meant-plain : (l : List Sent) (rs : List Representation) → asItems (meantBy l rs) ≡ slotItems rs
+pub meant-nontrailer : (l : List Sent) (rs : List Representation) → asItems (meantBy l rs) ≡ slotItems rs
 unfolding meantBy meant asItems slotItems slotItem
-meant-plain l [] = refl
-meant-plain l (indexed i ∷ rs) =
-    plain-pick (isStatic i) (meantGiven (fieldOf (entryAt i))) (meantIndex i (entryOf (look sentIndex i l))) (given (fieldOf (entryAt i))) (byIndex i)
+meant-nontrailer l [] = refl
+meant-nontrailer l (indexed i ∷ rs) =
+    nontrailer-pick (isStatic i) (meantGiven (entryField (entryAt i))) (meantIndex i (entryOf (look sentIndex i l))) (given (entryField (entryAt i))) (byIndex i)
     (meantBy l rs) refl refl
-    ∙ ap (λ (t : List Item). slotItem (indexed i) ∷ t) (meant-plain l rs)
-meant-plain l (literal flag (by-index i) value ∷ rs) =
-    plain-pick (isStatic i) (meantGiven (fieldNamed flag value (entryAt i))) (meantName i (entryOf (look sentIndex i l)) flag value)
+    ∙ ap (λ (t : List Item). slotItem (indexed i) ∷ t) (meant-nontrailer l rs)
+meant-nontrailer l (literal flag (by-index i) value ∷ rs) =
+    nontrailer-pick (isStatic i) (meantGiven (fieldNamed flag value (entryAt i))) (meantName i (entryOf (look sentIndex i l)) flag value)
     (given (fieldNamed flag value (entryAt i))) (byName i flag value) (meantBy l rs) refl refl
-    ∙ ap (λ (t : List Item). slotItem (literal flag (by-index i) value) ∷ t) (meant-plain l rs)
-meant-plain l (literal flag (by-bytes name) value ∷ rs) =
-    ap (λ (t : List Item). given (record { flag = flag; name = name; value = value }) ∷ t) (meant-plain l rs)
+    ∙ ap (λ (t : List Item). slotItem (literal flag (by-index i) value) ∷ t) (meant-nontrailer l rs)
+meant-nontrailer l (literal flag (by-bytes name) value ∷ rs) =
+    ap (λ (t : List Item). given (record { flag = flag; name = name; value = value }) ∷ t) (meant-nontrailer l rs)
 
 -- ---- which entry serves: not under deletion, with the name, or with name and value
 
@@ -192,7 +192,7 @@ module _ (l : List Sent) (a : Ascending sentIndex 62 l) where
 cons-fields : (x : MeantItem) (b : List MeantItem) (f : Field) → fieldsOf (x ∷ []) ≡ f ∷ [] → fieldsOf (x ∷ b) ≡ f ∷ fieldsOf b
 unfolding fieldsOf
 cons-fields (meantGiven g) b f h = let z : g ≡ f = cc in rw z
-cons-fields (meantIndex i c) b f h = let z : fieldOf c ≡ f = cc in rw z
+cons-fields (meantIndex i c) b f h = let z : entryField c ≡ f = cc in rw z
 cons-fields (meantName i c n v) b f h = let z : fieldNamed n v c ≡ f = cc in rw z
 
 cons-refs : (P : ℕ → Entry → Type 0) (x : MeantItem) (b : List MeantItem) → EachReference P (x ∷ []) → EachReference P b → EachReference P (x ∷ b)

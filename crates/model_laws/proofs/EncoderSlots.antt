@@ -13,7 +13,7 @@ use Rattle.statics.specs.Table.{Entry}
 use Rattle.blocks.specs.Representation.{Representation}
 use Rattle.model.specs.Table.{size, Ascending, look, put, cut}
 use Rattle.model.specs.Parts.{Part}
-use Rattle.model.specs.Encoder.{Sent, sentIndex, sentSize, deleteAt, refer}
+use Rattle.model.specs.Encoder.{Sent, sentIndex, sentSize, markDeleted, refer}
 use Rattle.model_laws.proofs.Tables.{nope, pick-eq, pick-yes, pick-no, look-index, look-put, look-cut, look-map, total-put, total-cut, total-map}
 use Rattle.model_laws.proofs.Order.{delete-index, refer-index}
 use Rattle.model_laws.proofs.SentChanges.{delete-entry, refer-entry}
@@ -81,15 +81,15 @@ slots-cut l k lo a =
     ap slotOfSent (look-cut sentIndex k j lo l a) ∙ slot-pick (eqb k j) none (look sentIndex j l) ∙ set-eqb k j freeSent (slotsSent l))
 
 pub slots-delete : (l : List Sent) (k : ℕ) (e : Sent) → look sentIndex k l ≡ some e
-    → slotsSent (map (deleteAt k) l) ≡ setAt k (deletedSent (e .entry) (listsSent e)) (slotsSent l)
-unfolding slotsSent deleteAt
+    → slotsSent (map (markDeleted k) l) ≡ setAt k (deletedSent (e .entry) (listsSent e)) (slotsSent l)
+unfolding slotsSent markDeleted
 slots-delete l k e h =
     fun-ext (λ j.
-    ap slotOfSent (look-map sentIndex (deleteAt k) (delete-index k) j l) ∙ go j (look sentIndex j l) refl
+    ap slotOfSent (look-map sentIndex (markDeleted k) (delete-index k) j l) ∙ go j (look sentIndex j l) refl
     ∙ set-eqb k j (deletedSent (e .entry) (listsSent e)) (slotsSent l))
   where
     go : (j : ℕ) (o : Option Sent) → look sentIndex j l ≡ o
-        → slotOfSent (Option·map (deleteAt k) o) ≡ pick (eqb k j) (deletedSent (e .entry) (listsSent e)) (slotOfSent o)
+        → slotOfSent (Option·map (markDeleted k) o) ≡ pick (eqb k j) (deletedSent (e .entry) (listsSent e)) (slotOfSent o)
     go j none m =
         pick-eq (λ (t : EncoderSlot). freeSent ≡ t) k j (deletedSent (e .entry) (listsSent e)) freeSent
         (λ p. let q = ap (λ (t : ℕ). look sentIndex t l) p in nope (cc)) (λ p. refl)
@@ -111,9 +111,9 @@ pub size-cut : (l : List Sent) (k : ℕ) (e : Sent) → look sentIndex k l ≡ s
 unfolding sentSize
 size-cut l k e h = let t = total-cut sentIndex (λ x. size (x .entry)) k l e h in omega arith
 
-pub size-delete : (l : List Sent) (k : ℕ) → sentSize (map (deleteAt k) l) ≡ sentSize l
+pub size-delete : (l : List Sent) (k : ℕ) → sentSize (map (markDeleted k) l) ≡ sentSize l
 unfolding sentSize
-size-delete l k = total-map sentIndex (deleteAt k) (delete-index k) (λ e. size (e .entry)) (λ e. ap size (delete-entry k e)) l
+size-delete l k = total-map sentIndex (markDeleted k) (delete-index k) (λ e. size (e .entry)) (λ e. ap size (delete-entry k e)) l
 
 pub size-refer : (l : List Sent) (s : ℕ) (p : Part) (rs : List Representation) → sentSize (map (refer s p rs) l) ≡ sentSize l
 unfolding sentSize

@@ -13,7 +13,7 @@ use Rattle.fields.specs.Form.{Field}
 use Rattle.model.specs.Table.{size, look, put, cut, vacantFrom}
 use Rattle.model.specs.Parts.{Part}
 use Rattle.model.specs.Outcome.{nothing, finish}
-use Rattle.model.specs.Encoder.{Sent, sentIndex, Encoder, sentSize, chooseName, choose, newSent, deleteAt, refer, FormsEncoder, withSent}
+use Rattle.model.specs.Encoder.{Sent, sentIndex, Encoder, sentSize, chooseName, choose, newSent, markDeleted, refer, FormsEncoder, withSent}
 use Rattle.model.specs.Encoder.{acknowledgeFound, readAck}
 use Rattle.model_laws.proofs.Tables.{look-index, vacant-free}
 use Rattle.model_laws.proofs.Slots.Functions.{setAt}
@@ -97,12 +97,12 @@ module _ (E : Encoder) (F : FormsEncoder E) (L : Link) (enc : L .encoderSlots �
 
   -- a delete: the slot was live, and is written with its horizons
   pub delete-kept : (i : ℕ) (e : Sent) → look sentIndex i (E .entries) ≡ some e → e .deleted ≡ false → Invariant L
-      → Invariant (saidTo L (map (deleteAt (e .index)) (E .entries)) (noteDelete (e .index) (listsSent e)))
+      → Invariant (saidTo L (map (markDeleted (e .index)) (E .entries)) (noteDelete (e .index) (listsSent e)))
   unfolding afterDelete
   delete-kept i e found lives I =
       let here : look sentIndex (e .index) (E .entries) ≡ some e
       = ap (λ (j : ℕ). look sentIndex j (E .entries)) (look-index sentIndex i (E .entries) e found) ∙ found in
-      let to : saidTo L (map (deleteAt (e .index)) (E .entries)) (noteDelete (e .index) (listsSent e)) ≡ afterDelete L (e .index) (e .entry) (listsSent e)
+      let to : saidTo L (map (markDeleted (e .index)) (E .entries)) (noteDelete (e .index) (listsSent e)) ≡ afterDelete L (e .index) (e .entry) (listsSent e)
       = λ k.
       withNote (withEncoder L ((slots-delete (E .entries) (e .index) e here ∙ ap (setAt (e .index) (deletedSent (e .entry) (listsSent e))) (sym enc)) k)
       ((size-delete (E .entries) (e .index) ∙ sym hold) k)) (noteDelete (e .index) (listsSent e)) in

@@ -19,7 +19,7 @@ use Rattle.model.specs.Table.{size, look, put, cut, vacantFrom}
 use Rattle.model.specs.Parts.{Part, partOf, mark, inTurn, streams}
 use Rattle.model.specs.Outcome.{nothing, instruction, block, Outcome, finish}
 use Rattle.model.specs.Encoder.{Sent, sentIndex, Encoder, sentSize, withSent, withWritten, chooseName, choose, newSent, insertAt, insertEntry}
-use Rattle.model.specs.Encoder.{deleteAt, deleteOfSent, deleteFound, deleteSent, refer, writePart, encodePart, encodeBlock, acknowledgeFound, readAck}
+use Rattle.model.specs.Encoder.{markDeleted, deleteOfSent, deleteFound, deleteSent, refer, writePart, encodePart, encodeBlock, acknowledgeFound, readAck}
 
 -- the insert that is written
 abbrev pub insertOf : Encoder → ℕ → List ℕ → List ℕ → Instruction
@@ -51,7 +51,7 @@ module _ {κ} (R : Outcome Encoder → Type κ) (E : Encoder)
 
   pub delete-ways : (i room : ℕ)
       → ((e : Sent) → look sentIndex i (E .entries) ≡ some e → e .deleted ≡ false → length (instructionWire (deleteOfSent e)) ≤ room
-      → R (finish (withSent E (map (deleteAt (e .index)) (E .entries))) (length (instructionWire (deleteOfSent e))) 0 (instruction (deleteOfSent e))))
+      → R (finish (withSent E (map (markDeleted (e .index)) (E .entries))) (length (instructionWire (deleteOfSent e))) 0 (instruction (deleteOfSent e))))
       → R (deleteSent E i room)
   unfolding deleteSent deleteFound
   delete-ways i room deleted =

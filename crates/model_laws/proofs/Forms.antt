@@ -11,7 +11,7 @@ use Rattle.memory.proofs.Order.{pick-both}
 use Rattle.wire.specs.Name.{Name, indexed, literal, FineName}
 use Rattle.statics.specs.Table.{entryAt}
 use Rattle.statics.proofs.Places.{name-most}
-use Rattle.instructions.specs.Instruction.{Instruction, insert, delete, acknowledge, Fine}
+use Rattle.instructions.specs.Instruction.{Instruction, insert, delete, acknowledge, FineInstruction}
 use Rattle.blocks.specs.Meaning.{Slot, holds, isStatic, withStatics}
 use Rattle.model.specs.Table.{look, total}
 use Rattle.model.specs.Parts.{mark, closed}
@@ -61,17 +61,17 @@ module _ (D : Decoder) (F : FormsDecoder D) where
 abbrev Keeps : Outcome Decoder → Type 0
 Keeps o = FormsDecoder (o .state)
 
-pub forms-read : (D : Decoder) (i : Instruction) (taken : ℕ) → FormsDecoder D → Fine i → FormsDecoder (readInstruction D i taken .state)
+pub forms-read : (D : Decoder) (i : Instruction) (taken : ℕ) → FormsDecoder D → FineInstruction i → FormsDecoder (readInstruction D i taken .state)
 unfolding deleteOf
 forms-read D (insert i n value) taken F f =
     insert-ways Keeps D (λ a z. F) i n value taken
     (λ name e free fits few.
     forms-put D F (newHeld i name value) free (record { index = f .0; name = name-fits D F n (f .1) name e; value = f .2 }) fits few)
-forms-read D (delete i plain trailer) taken F f =
-    delete-ways Keeps D (λ a z. F) i plain trailer taken
+forms-read D (delete i nontrailer trailer) taken F f =
+    delete-ways Keeps D (λ a z. F) i nontrailer trailer taken
     (λ h there free.
-    forms-delete D F (record { index = i; plain = plain; trailer = trailer })
-    (record { plain = f .1; trailer = f .2; held = ap (λ (o : Option Held). isSome o) there }) free)
+    forms-delete D F (record { index = i; nontrailer = nontrailer; trailer = trailer })
+    (record { nontrailer = f .1; trailer = f .2; held = ap (λ (o : Option Held). isSome o) there }) free)
 forms-read D (acknowledge i) taken F f = acknowledge-ways Keeps D (λ a z. F) i taken
 
 pub forms-call : (D : Decoder) (c : DecoderCall) → FormsDecoder D → FineCall c → FormsDecoder (decoderCall D c .state)

@@ -8,7 +8,7 @@ use lib.ListN.{length}
 use Rattle.model.specs.Table.{look, vacantFrom, total}
 use Rattle.model.specs.Parts.{mark}
 use Rattle.model.specs.Outcome.{Outcome}
-use Rattle.model.specs.Encoder.{sentIndex, Encoder, sentSize, startEncoder, newSent, deleteAt, refer, FineSent, FormsEncoder}
+use Rattle.model.specs.Encoder.{sentIndex, Encoder, sentSize, startEncoder, newSent, markDeleted, refer, FineSent, FormsEncoder}
 use Rattle.model.specs.EncoderCalls.{EncoderCall, insert, delete, block, acknowledged, unread, encoderCall, afterEncoder}
 use Rattle.model_laws.proofs.Tables.{nope, look-index, vacant-low, vacant-free, vacant-high}
 use Rattle.model_laws.proofs.EncoderWays.{insert-ways, delete-ways, block-ways, acknowledged-ways}
@@ -25,7 +25,7 @@ pub new-fine : (E : Encoder) (i : ℕ) (name value : List ℕ) → i ≡ vacantF
 new-fine E i name value e n v few =
     let l = vacant-low sentIndex 62 (E .entries) in
     let h = vacant-high sentIndex 62 (E .entries) in
-    record { low = omega arith; high = omega arith; name = n; value = v; plain = omega arith; trailer = omega arith }
+    record { low = omega arith; high = omega arith; name = n; value = v; nontrailer = omega arith; trailer = omega arith }
 
 abbrev Keeps : Outcome Encoder → Type 0
 Keeps o = FormsEncoder (o .state)
@@ -39,7 +39,7 @@ sent-call E (insert name value room) F =
 sent-call E (delete i room) F =
     delete-ways Keeps E (λ a z. F) i room
     (λ e there still fits.
-    sent-map E F (deleteAt (e .index)) (delete-index (e .index)) (delete-entry (e .index)) (delete-fine (e .index)) (E .written))
+    sent-map E F (markDeleted (e .index)) (delete-index (e .index)) (delete-entry (e .index)) (delete-fine (e .index)) (E .written))
 sent-call E (block s part fs room) F =
     block-ways Keeps E (λ a z. F) s part fs room
     (λ p rs chosen e below turn short fits.

@@ -12,7 +12,7 @@ use Rattle.blocks.specs.Meaning.{blockReferences}
 use Rattle.model.specs.Table.{size, look, total}
 use Rattle.model.specs.Parts.{Part, nontrailer, trailer}
 use Rattle.model.specs.Outcome.{Outcome}
-use Rattle.model.specs.Encoder.{Encoder, Sent, sentIndex, sentSize, startEncoder, newSent, asDeleted, deleteAt, mentions, referred, refer}
+use Rattle.model.specs.Encoder.{Encoder, Sent, sentIndex, sentSize, startEncoder, newSent, asDeleted, markDeleted, mentions, referred, refer}
 use Rattle.model.specs.EncoderCalls.{EncoderCall, encoderCall, afterEncoder}
 use Rattle.model.specs.EncoderCalls as at-encoder
 use Rattle.model_laws.specs.History.{sizeSent, sent, acked, sentSince, ackedSince}
@@ -23,8 +23,8 @@ use Rattle.model_laws.proofs.Order.{delete-index, refer-index}
 abbrev sentWeight : Sent → ℕ
 sentWeight e = size (e .entry)
 
-delete-weight : (i : ℕ) (e : Sent) → sentWeight (deleteAt i e) ≡ sentWeight e
-unfolding deleteAt
+delete-weight : (i : ℕ) (e : Sent) → sentWeight (markDeleted i e) ≡ sentWeight e
+unfolding markDeleted
 delete-weight i e = pick-eq (λ t. sentWeight t ≡ sentWeight e) (e .index) i (asDeleted e) e (λ h. refl) (λ h. refl)
 
 referred-weight : (s : ℕ) (p : Part) (e : Sent) → sentWeight (referred s p e) ≡ sentWeight e
@@ -50,7 +50,7 @@ sent-call E (at-encoder.insert name value room) =
 sent-call E (at-encoder.delete i room) =
     encoder.delete-ways (Changed E 0 0) E (λ n e. refl) i room
     (λ e f g h. ap (λ t. t + 0)
-    (total-map sentIndex (deleteAt (e .index)) (delete-index (e .index)) sentWeight (delete-weight (e .index)) (E .entries)))
+    (total-map sentIndex (markDeleted (e .index)) (delete-index (e .index)) sentWeight (delete-weight (e .index)) (E .entries)))
 sent-call E (at-encoder.block s part fs room) =
     encoder.block-ways (Changed E 0 0) E (λ n e. refl) s part fs room
     (λ p rs e f g h k m. ap (λ t. t + 0)

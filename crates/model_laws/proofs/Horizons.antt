@@ -15,7 +15,7 @@ use Rattle.blocks.specs.Meaning.{blockReferences}
 use Rattle.model.specs.Table.{Ascending, look, put, cut}
 use Rattle.model.specs.Parts.{Part, nontrailer, trailer, partOf, partNumber, samePart}
 use Rattle.model.specs.Outcome.{block}
-use Rattle.model.specs.Encoder.{Encoder, Sent, sentIndex, startEncoder, newSent, asDeleted, deleteAt, mentions, referred, refer}
+use Rattle.model.specs.Encoder.{Encoder, Sent, sentIndex, startEncoder, newSent, asDeleted, markDeleted, mentions, referred, refer}
 use Rattle.model.specs.EncoderCalls.{EncoderCall, encoderCall, afterEncoder}
 use Rattle.model.specs.EncoderCalls as at-encoder
 use Rattle.model_laws.specs.History.{raisedBy, begunBy, horizonAfter, horizonSince, horizonOf}
@@ -39,9 +39,9 @@ part-same n p q h = go (eqb n 0) refl (eqb n 1) refl p q h
     go false e false f p q h = nope (cc)
 
 -- ---- one entry
-horizon-deleted : (p : Part) (i : ℕ) (e : Sent) → horizonOf p (deleteAt i e) ≡ horizonOf p e
-unfolding deleteAt
-horizon-deleted nontrailer i e = pick-eq (λ t. horizonOf nontrailer t ≡ e .plain) (e .index) i (asDeleted e) e (λ h. refl) (λ h. refl)
+horizon-deleted : (p : Part) (i : ℕ) (e : Sent) → horizonOf p (markDeleted i e) ≡ horizonOf p e
+unfolding markDeleted
+horizon-deleted nontrailer i e = pick-eq (λ t. horizonOf nontrailer t ≡ e .nontrailer) (e .index) i (asDeleted e) e (λ h. refl) (λ h. refl)
 horizon-deleted trailer i e = pick-eq (λ t. horizonOf trailer t ≡ e .trailer) (e .index) i (asDeleted e) e (λ h. refl) (λ h. refl)
 
 horizon-new : (p : Part) (i : ℕ) (name value : List ℕ) → horizonOf p (newSent i name value) ≡ 0
@@ -116,7 +116,7 @@ horizon-call i p h E (at-encoder.insert name value room) a known =
     (λ j q f g m n o. known-put i p h j name value (E .entries) (rw q (vacant-free sentIndex 62 (E .entries) a)) known)
 horizon-call i p h E (at-encoder.delete j room) a known =
     encoder.delete-ways (λ o. Known i p h (o .state .entries)) E (λ n f. known) j room
-    (λ d f g m. known-map i p h h (deleteAt (d .index)) (delete-index (d .index)) (E .entries)
+    (λ d f g m. known-map i p h h (markDeleted (d .index)) (delete-index (d .index)) (E .entries)
     (λ e q r. horizon-deleted p (d .index) e ∙ r) known)
 horizon-call i p h E (at-encoder.block s part fs room) a known =
     encoder.block-ways (λ o. Known i p (raisedBy i p s (o .output) part h) (o .state .entries)) E (λ n f. known) s part fs room

@@ -34,8 +34,8 @@ pub decoder-limit : (D : Decoder) (c : DecoderCall) → decoderCall D c .state .
 unfolding decoderCall without
 decoder-limit D (at-decoder.read (insert i name value) taken) =
     decoder.insert-ways (λ o. o .state .limit ≡ D .limit) D (λ a e. refl) i name value taken (λ xs e n f g. refl)
-decoder-limit D (at-decoder.read (delete i plain last) taken) =
-    decoder.delete-ways (λ o. o .state .limit ≡ D .limit) D (λ a e. refl) i plain last taken (λ h e f. refl)
+decoder-limit D (at-decoder.read (delete i first last) taken) =
+    decoder.delete-ways (λ o. o .state .limit ≡ D .limit) D (λ a e. refl) i first last taken (λ h e f. refl)
 decoder-limit D (at-decoder.read (acknowledge i) taken) =
     decoder.acknowledge-ways (λ o. o .state .limit ≡ D .limit) D (λ a e. refl) i taken
 decoder-limit D (at-decoder.block s part rs room) =

@@ -10,7 +10,7 @@ use lib.Dec.{eqb}
 use Rattle.memory.proofs.Order.{pick-both}
 use Rattle.integers.specs.Answers.{Answer}
 use Rattle.fields.specs.Form.{Field, AllFine}
-use Rattle.instructions.specs.Instruction.{Instruction, insert, delete, acknowledge, Manages, Fine}
+use Rattle.instructions.specs.Instruction.{Instruction, insert, delete, acknowledge, Manages, FineInstruction}
 use Rattle.blocks.specs.Representation.{Representation}
 use Rattle.model.specs.Table.{look, put}
 use Rattle.model.specs.Parts.{partNumber, Closing}
@@ -18,7 +18,7 @@ use Rattle.model.specs.Outcome.{Output, nothing, instruction, block, fields, Ou
 use Rattle.model.specs.Decoder.{Decoder, heldIndex, isSome, decodeBlock, closeParts, collectEntry, FormsDecoder}
 use Rattle.model.specs.DecoderCalls.{DecoderCall, decoderCall}
 use Rattle.model.specs.DecoderCalls as at-decoder
-use Rattle.model.specs.Encoder.{Encoder, sentIndex, newSent, deleteAt, deleteOfSent, FormsEncoder}
+use Rattle.model.specs.Encoder.{Encoder, sentIndex, newSent, markDeleted, deleteOfSent, FormsEncoder}
 use Rattle.model.specs.EncoderCalls.{EncoderCall, encoderCall}
 use Rattle.model.specs.EncoderCalls as at-encoder
 use Rattle.model_laws.specs.Ready.{FineCall}
@@ -65,7 +65,7 @@ freed-holds : (xs : List Event) (o : Output) → Holds xs (freedBy o)
 unfolding freedBy
 freed-holds xs nothing = tt
 freed-holds xs (instruction (insert i name value)) = tt
-freed-holds xs (instruction (delete i plain last)) = tt
+freed-holds xs (instruction (delete i first last)) = tt
 freed-holds xs (instruction (acknowledge i)) = tt
 freed-holds xs (block rs) = tt
 freed-holds xs (fields fs) = tt
@@ -103,7 +103,7 @@ module _ (es : List Event) (R : AbstractRules es) (xs ys : List Event) (S : Ends
   Said o = Holds xs (saidBy (o .output)) × Tied (xs ++ (saidBy (o .output) ∷ [])) (o .state) D
 
   abbrev Sayable : Outcome Encoder → Type 0
-  Sayable o = (i : Instruction) → o .output ≡ instruction i → Manages i × Fine i
+  Sayable o = (i : Instruction) → o .output ≡ instruction i → Manages i × FineInstruction i
 
   inserted : (name value : List ℕ) (room : ℕ) → Said (encoderCall E (at-encoder.insert name value room))
   unfolding encoderCall saidBy linkOf tablesOf
@@ -124,7 +124,7 @@ module _ (es : List Event) (R : AbstractRules es) (xs ys : List Event) (S : Ends
       ways.delete-ways (λ o. Sayable o → Said o) E (λ a e g. (tt, quiet-tied xs E D (K .tied) quiet tt tt)) i room
       (λ x e f g sayable. (
         tt,
-        said-tied xs E D (K .tied) (deleteOfSent x) (map (deleteAt (x .index)) (E .entries)) (noteDelete (x .index) (listsSent x))
+        said-tied xs E D (K .tied) (deleteOfSent x) (map (markDeleted (x .index)) (E .entries)) (noteDelete (x .index) (listsSent x))
             (delete-wire x) (sayable _ refl) (delete-kept E (K .encoder-forms) (now xs E D (K .tied)) refl refl i x e f (K .tied .invariant)),
       ))
       (said-fine E (at-encoder.delete i room) (K .encoder-forms))

@@ -75,7 +75,7 @@ holds i D = isSome (look heldIndex i (D .entries))
 -- an instruction answered other than "done" changes nothing
 refused-keeps : (j : Instruction) (n i : ℕ) (h : Bool) → eqb n 0 ≡ false → heldBy j n i h ≡ h
 refused-keeps (insert j name value) n i h e = ap (λ (t : Bool). pick (t && eqb j i) true h) e
-refused-keeps (delete j plain last) n i h e = refl
+refused-keeps (delete j first last) n i h e = refl
 refused-keeps (acknowledge j) n i h e = refl
 
 put-holds : (i : ℕ) (h : Held) (l : List Held) → look heldIndex (h .index) l ≡ none
@@ -105,8 +105,8 @@ read-holds D (insert j name value) taken i =
     ways.insert-ways (λ o. heldBy (insert j name value) (o .answer .number) i (holds i D) ≡ holds i (o .state)) D
     (λ a e. refused-keeps (insert j name value) (a .number) i (holds i D) e) j name value taken
     (λ xs e n f g. put-holds i (ways.newHeld j xs value) (D .entries) n)
-read-holds D (delete j plain last) taken i =
-    ways.delete-ways (λ o. holds i D ≡ holds i (o .state)) D (λ a e. refl) j plain last taken (λ h e f. refl)
+read-holds D (delete j first last) taken i =
+    ways.delete-ways (λ o. holds i D ≡ holds i (o .state)) D (λ a e. refl) j first last taken (λ h e f. refl)
 read-holds D (acknowledge j) taken i = ways.acknowledge-ways (λ o. holds i D ≡ holds i (o .state)) D (λ a e. refl) j taken
 
 -- ---- one call, then all

@@ -7,7 +7,7 @@ use native.Mathlib.Omega.{arith}
 use mathlib.Core.Option.{some}
 use mathlib.Core.List.{List, [], _∷_, _++_, map, List·Memᴰ, List·Memᴰ·head, List·Memᴰ·tail}
 use lib.ListN.{length, drop, length-append, length-drop}
-use Rattle.instructions.specs.Instruction.{Instruction, Manages, Fine}
+use Rattle.instructions.specs.Instruction.{Instruction, Manages, FineInstruction}
 use Rattle.blocks.specs.Representation.{AllFine}
 use Rattle.model.specs.Parts.{partNumber}
 use Rattle.model.specs.Decoder.{Decoder}
@@ -56,7 +56,7 @@ unread-above b k (j ∷ l) (y ∷ m) h u = let z = u .0 in (omega (arith, z, h),
 
 -- the instructions written, of which k were read
 pub record Management (l : List Instruction) (k : ℕ) (mq : List SentNote) : Type 0 where
-  pub fine : (n : ℕ) (i : Instruction) → at n l ≡ some i → Manages i × Fine i
+  pub fine : (n : ℕ) (i : Instruction) → at n l ≡ some i → Manages i × FineInstruction i
   pub bound : k ≤ length l
   pub unread : Unread k (drop k l) mq
 
@@ -64,7 +64,7 @@ pub management-start : Management [] 0 []
 unfolding at
 management-start = record { fine = λ n i h. nope (cc); bound = omega arith; unread = tt }
 
-pub management-said : (l : List Instruction) (k : ℕ) (mq : List SentNote) (i : Instruction) (note : Note) → slotInstruction i ≡ onWire note → Manages i × Fine i
+pub management-said : (l : List Instruction) (k : ℕ) (mq : List SentNote) (i : Instruction) (note : Note) → slotInstruction i ≡ onWire note → Manages i × FineInstruction i
     → Management l k mq → Management (l ++ (i ∷ [])) k (mq ++ (record { number = length l; note = note } ∷ []))
 management-said l k mq i note w f M = record {
   fine = λ n j h. good n j (at-last n l i j h);
@@ -75,9 +75,9 @@ management-said l k mq i note w f M = record {
       (let b = M .bound in let z = length-drop k l in omega (arith, b, z)) w (M .unread));
 }
   where
-    good : (n : ℕ) (j : Instruction) → (at n l ≡ some j) ⊎ ((n ≡ length l) × (i ≡ j)) → Manages j × Fine j
+    good : (n : ℕ) (j : Instruction) → (at n l ≡ some j) ⊎ ((n ≡ length l) × (i ≡ j)) → Manages j × FineInstruction j
     good n j (inl h) = M .fine n j h
-    good n j (inr h) = subst (λ (t : Instruction). Manages t × Fine t) (h .1) f
+    good n j (inr h) = subst (λ (t : Instruction). Manages t × FineInstruction t) (h .1) f
 
 -- the next one
 pub record NextRead (l : List Instruction) (k : ℕ) (mq : List SentNote) (i : Instruction) : Type 0 where

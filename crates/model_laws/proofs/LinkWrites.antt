@@ -8,7 +8,7 @@ use mathlib.Core.Option.{some}
 use mathlib.Core.List.{List, [], _∷_, _++_, map, append-nil}
 use lib.ListN.{length, length-append}
 use Rattle.fields.specs.Form.{Field, AllFine}
-use Rattle.instructions.specs.Instruction.{Instruction, Manages, Fine}
+use Rattle.instructions.specs.Instruction.{Instruction, Manages, FineInstruction}
 use Rattle.blocks.specs.Representation.{Representation}
 use Rattle.model.specs.Table.{cut}
 use Rattle.model.specs.Parts.{Part, nontrailer, trailer, partOf, Marks, inTurn, streams}
@@ -26,7 +26,7 @@ use Rattle.model_laws.proofs.LinkHistory.{History, Calm, quiet-history,
 use Rattle.model_laws.proofs.Marks.{part-number}
 use Rattle.model_laws.proofs.LinkState.{linkOf, Management, management-said, Acknowledgements, acknowledgements-next, AllMeant, meant-wrote}
 use Rattle.model_laws.proofs.View.{slotInstruction}
-use Rattle.model_laws.proofs.EncoderItems.{meantItems, meant-plain, meant-fields}
+use Rattle.model_laws.proofs.EncoderItems.{meantItems, meant-nontrailer, meant-fields}
 use Rattle.model_laws.proofs.Saying.{choices-fine}
 use Rattle.model_laws.proofs.EncoderView.{saidTo, block-kept, ack-found, ack-done, ack-kept}
 use Rattle.model_laws.proofs.Slots.Messages.{SentNote, Note, onWire, FreedNote}
@@ -123,7 +123,7 @@ module _ (xs : List Event) (E : Encoder) (D : Decoder) (T : Tied xs E D) where
   quiet-tied e s c = still-tied e s D (quiet-history xs e (D .finished) (E .written) c (T .history)) (T .invariant)
 
   -- ---- an insert or a delete was written
-  pub said-tied : (i : Instruction) (l : List encoder.Sent) (note : Note) → slotInstruction i ≡ onWire note → Manages i × Fine i
+  pub said-tied : (i : Instruction) (l : List encoder.Sent) (note : Note) → slotInstruction i ≡ onWire note → Manages i × FineInstruction i
       → Invariant (saidTo now l note) → Tied (xs ++ (said i ∷ [])) (withSent E l) D
   unfolding saidIn heardIn freedIn acknowledgedIn writtenFrom linkOf
   said-tied i l note w f I =
@@ -168,7 +168,7 @@ module _ (xs : List Event) (E : Encoder) (D : Decoder) (T : Tied xs E D) where
         meant =
             rw (written-append xs (e ∷ []))
             (meant-wrote (writtenIn xs) (T .blocks) _ new refl (sym (part-number part p q))
-            (choices-fine (E .entries) (F .order) (F .entries) fs fine) (meant-plain (E .entries) rs)
+            (choices-fine (E .entries) (F .order) (F .entries) fs fine) (meant-nontrailer (E .entries) rs)
             (meant-fields (E .entries) (F .order) fs fine) refl (T .meant));
         invariant = rw a (block-kept E F now refl refl s p fs (T .invariant));
       }

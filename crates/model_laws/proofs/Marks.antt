@@ -82,9 +82,9 @@ names-low l s h e =
     (λ t d. omega (arith, ltb-true s (l .horizon) t))
     (λ t d. listed-low (l .horizon) (l .streams) s (h .2) d) e
 
-pub part-low : (d : Delete) (s : ℕ) (p : Part) → FineList (d .plain) → FineList (d .trailer) → namesPart d s p ≡ true → s < streams
+pub part-low : (d : Delete) (s : ℕ) (p : Part) → FineList (d .nontrailer) → FineList (d .trailer) → namesPart d s p ≡ true → s < streams
 unfolding namesPart
-part-low d s nontrailer h k e = names-low (d .plain) s h e
+part-low d s nontrailer h k e = names-low (d .nontrailer) s h e
 part-low d s trailer h k e = names-low (d .trailer) s k e
 
 -- ---- named parts that are not marked

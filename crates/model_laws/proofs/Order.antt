@@ -12,7 +12,7 @@ use Rattle.model.specs.Table.{Ascending}
 use Rattle.model.specs.Parts.{Part, nontrailer, trailer}
 use Rattle.model.specs.Decoder.{Decoder, heldIndex, without}
 use Rattle.model.specs.DecoderCalls.{DecoderCall, read, block, close, collect, hold, unread, decoderCall, afterDecoder}
-use Rattle.model.specs.Encoder.{Encoder, Sent, sentIndex, newSent, deleteAt, referred, refer, mentions}
+use Rattle.model.specs.Encoder.{Encoder, Sent, sentIndex, newSent, markDeleted, referred, refer, mentions}
 use Rattle.model.specs.EncoderCalls.{EncoderCall, encoderCall, afterEncoder}
 use Rattle.model.specs.EncoderCalls as at-encoder
 use Rattle.model_laws.specs.Ready.{FineCall, FineCalls}
@@ -25,7 +25,7 @@ use Rattle.model_laws.proofs.EncoderWays as encoder
 -- an insert has at least the index lo
 abbrev pub InsertsFrom : ℕ → DecoderCall → Type 0
 InsertsFrom lo (read (insert i name value) taken) = lo ≤ i
-InsertsFrom lo (read (delete i plain last) taken) = Unit {0}
+InsertsFrom lo (read (delete i first last) taken) = Unit {0}
 InsertsFrom lo (read (acknowledge i) taken) = Unit {0}
 InsertsFrom lo (block s part rs room) = Unit {0}
 InsertsFrom lo (close k s) = Unit {0}
@@ -35,7 +35,7 @@ InsertsFrom lo (unread number) = Unit {0}
 
 pub inserts-any : (c : DecoderCall) → InsertsFrom 0 c
 inserts-any (read (insert i name value) taken) = omega arith
-inserts-any (read (delete i plain last) taken) = tt
+inserts-any (read (delete i first last) taken) = tt
 inserts-any (read (acknowledge i) taken) = tt
 inserts-any (block s part rs room) = tt
 inserts-any (close k s) = tt
@@ -45,7 +45,7 @@ inserts-any (unread number) = tt
 
 pub inserts-fine : (c : DecoderCall) → FineCall c → InsertsFrom 62 c
 inserts-fine (read (insert i name value) taken) f = f .1 .0 .0
-inserts-fine (read (delete i plain last) taken) f = tt
+inserts-fine (read (delete i first last) taken) f = tt
 inserts-fine (read (acknowledge i) taken) f = tt
 inserts-fine (block s part rs room) f = tt
 inserts-fine (close k s) f = tt
@@ -59,8 +59,8 @@ unfolding decoderCall without
 decoder-order lo D (read (insert i name value) taken) low a =
     decoder.insert-ways (λ o. Ascending heldIndex lo (o .state .entries)) D (λ n e. a) i name value taken
     (λ xs e n f g. asc-put heldIndex lo (decoder.newHeld i xs value) (D .entries) low n a)
-decoder-order lo D (read (delete i plain last) taken) low a =
-    decoder.delete-ways (λ o. Ascending heldIndex lo (o .state .entries)) D (λ n e. a) i plain last taken (λ h e f. a)
+decoder-order lo D (read (delete i first last) taken) low a =
+    decoder.delete-ways (λ o. Ascending heldIndex lo (o .state .entries)) D (λ n e. a) i first last taken (λ h e f. a)
 decoder-order lo D (read (acknowledge i) taken) low a =
     decoder.acknowledge-ways (λ o. Ascending heldIndex lo (o .state .entries)) D (λ n e. a) i taken
 decoder-order lo D (block s part rs room) low a =
@@ -80,8 +80,8 @@ decoder-orders D [] f a = a
 decoder-orders D (c ∷ cs) f a = decoder-orders (decoderCall D c .state) cs (f .1) (decoder-order 62 D c (inserts-fine c (f .0)) a)
 
 -- ---- the encoder: neither a delete nor a block changes an index
-pub delete-index : (i : ℕ) (e : Sent) → deleteAt i e .index ≡ e .index
-unfolding deleteAt
+pub delete-index : (i : ℕ) (e : Sent) → markDeleted i e .index ≡ e .index
+unfolding markDeleted
 delete-index i e = pick-eq (λ (t : Sent). t .index ≡ e .index) (e .index) i _ e (λ h. refl) (λ h. refl)
 
 referred-index : (s : ℕ) (p : Part) (e : Sent) → referred s p e .index ≡ e .index
@@ -104,7 +104,7 @@ encoder-order E (at-encoder.insert name value room) a =
     (rw e (vacant-free sentIndex 62 (E .entries) a)) a)
 encoder-order E (at-encoder.delete i room) a =
     encoder.delete-ways (λ o. Ascending sentIndex 62 (o .state .entries)) E (λ n e. a) i room
-    (λ e f g h. asc-map sentIndex (deleteAt (e .index)) (delete-index (e .index)) 62 (E .entries) a)
+    (λ e f g h. asc-map sentIndex (markDeleted (e .index)) (delete-index (e .index)) 62 (E .entries) a)
 encoder-order E (at-encoder.block s part fs room) a =
     encoder.block-ways (λ o. Ascending sentIndex 62 (o .state .entries)) E (λ n e. a) s part fs room
     (λ p rs e f g h k m. asc-map sentIndex (refer s p rs) (refer-index s p rs) 62 (E .entries) a)

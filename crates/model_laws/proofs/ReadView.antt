@@ -136,7 +136,7 @@ unfolding readInstruction machine.read slotInstruction tablesOf slotsOf
 read-agrees D F (insert i name value) taken m =
     rw (name-view D value name)
     (insert-agrees D F i taken value (look heldIndex i (D .entries)) refl (look deleteIndex i (D .deletes)) (nameBytes (lookup D) name))
-read-agrees D F (delete i plain trailer) taken m =
-    delete-agrees D F i taken (record { index = i; plain = plain; trailer = trailer }) (look heldIndex i (D .entries)) refl
+read-agrees D F (delete i nontrailer trailer) taken m =
+    delete-agrees D F i taken (record { index = i; nontrailer = nontrailer; trailer = trailer }) (look heldIndex i (D .entries)) refl
     (look deleteIndex i (D .deletes)) refl
 read-agrees D F (acknowledge i) taken m = absurd m

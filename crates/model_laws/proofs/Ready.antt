@@ -31,7 +31,7 @@ module _ (D : Decoder) (F : FormsDecoder D) (i : ℕ) (d : Delete) (e : deleteOf
 
   low : (s : ℕ) (p : Part) → namesPart d s p ≡ true → s < streams
   unfolding deleteOf
-  low s p = part-low d s p (F .deletes i d e .plain) (F .deletes i d e .trailer)
+  low s p = part-low d s p (F .deletes i d e .nontrailer) (F .deletes i d e .trailer)
 
   ready-unreachable : ready D i ≡ true → Unreachable
   ready-unreachable r s p rs n refers c =

@@ -17,7 +17,7 @@ use Rattle.statics.specs.declared.search.StaticFound.the-variants.{At, Nothing}
 use Rattle.statics.proofs.Finding.{name-found, both-found}
 use Rattle.fields.specs.Form.{Field}
 use Rattle.fields.specs.Form as form
-use Rattle.instructions.specs.Instruction.{Instruction, insert, delete, acknowledge, FineIndex, Manages, Fine}
+use Rattle.instructions.specs.Instruction.{Instruction, insert, delete, acknowledge, FineIndex, Manages, FineInstruction}
 use Rattle.blocks.specs.Representation.{Representation, AllFine}
 use Rattle.blocks.specs.Representation as representation
 use Rattle.model.specs.Table.{Ascending, look, lowest}
@@ -57,21 +57,21 @@ module _ (l : List Sent) (order : Ascending sentIndex 62 l) (entries : (i : ℕ)
   unfolding chooseName
   name-fine name h = static-name name h (findName name) refl
 
-  module _ (f : Field) (fine : form.Fine f) where
-    dynamic-field : (o : Option Sent) → lowest sentIndex (servesBoth (f .name) (f .value)) l ≡ o → representation.Fine (dynamicField l f o)
+  module _ (f : Field) (fine : form.FineField f) where
+    dynamic-field : (o : Option Sent) → lowest sentIndex (servesBoth (f .name) (f .value)) l ≡ o → representation.FineRepresentation (dynamicField l f o)
     unfolding dynamicField
     dynamic-field none q = (omega arith, name-fine (f .name) (fine .name-short), fine .value-short)
     dynamic-field (some e) q = lowest-fine (servesBoth (f .name) (f .value)) e q
 
-    static-field : (o : StaticFound) → findBoth (f .name) (f .value) ≡ o → representation.Fine (staticField l f o)
+    static-field : (o : StaticFound) → findBoth (f .name) (f .value) ≡ o → representation.FineRepresentation (staticField l f o)
     unfolding staticField
     static-field (At j) q = let g = both-found (f .name) (f .value) 61 1 j q in (omega arith, omega arith)
     static-field Nothing q = dynamic-field (lowest sentIndex (servesBoth (f .name) (f .value)) l) refl
 
-    pub choice-fine : representation.Fine (choose l f)
+    pub choice-fine : representation.FineRepresentation (choose l f)
     unfolding choose
     choice-fine =
-        pick-both representation.Fine (eqb (f .flag) 1) _ _
+        pick-both representation.FineRepresentation (eqb (f .flag) 1) _ _
         (λ t. (omega arith, name-fine (f .name) (fine .name-short), fine .value-short))
         (λ t. static-field (findBoth (f .name) (f .value)) refl)
 
@@ -84,7 +84,7 @@ module _ (l : List Sent) (order : Ascending sentIndex 62 l) (entries : (i : ℕ)
 -- an instruction that is said is an insert or a delete, and fine
 abbrev Said : Output → Type 0
 Said nothing = Unit {0}
-Said (instruction i) = Manages i × Fine i
+Said (instruction i) = Manages i × FineInstruction i
 Said (block rs) = Unit {0}
 Said (fields fs) = Unit {0}
 
@@ -103,14 +103,14 @@ module _ (E : Encoder) (F : FormsEncoder E) where
       delete-ways Says E (λ a z. tt) i room
       (λ e there still fits.
       let f = F .entries i e there in
-      (tt, ((f .low, omega arith), (f .plain, omega arith, tt), (f .trailer, omega arith, tt))))
+      (tt, ((f .low, omega arith), (f .nontrailer, omega arith, tt), (f .trailer, omega arith, tt))))
   said-call (at-encoder.block s part fs room) =
       block-ways Says E (λ a z. tt) s part fs room (λ p rs chosen e below turn short fits. tt)
   said-call (at-encoder.acknowledged i taken) =
       acknowledged-ways Says E (λ a z. tt) i taken (λ e there gone. tt)
   said-call (at-encoder.unread number) = tt
 
-pub said-fine : (E : Encoder) (c : EncoderCall) → FormsEncoder E → (i : Instruction) → encoderCall E c .output ≡ instruction i → Manages i × Fine i
+pub said-fine : (E : Encoder) (c : EncoderCall) → FormsEncoder E → (i : Instruction) → encoderCall E c .output ≡ instruction i → Manages i × FineInstruction i
 said-fine E c F i e = subst Said e (said-call E F c)
 
 -- the block that is said is the one that was chosen
@@ -142,7 +142,7 @@ Acks o = Acknowledges (o .output)
 module _ (D : Decoder) (F : FormsDecoder D) where
   ack-read : (i : Instruction) (taken : ℕ) → Acks (readInstruction D i taken)
   ack-read (insert i name value) taken = decoder.insert-ways Acks D (λ a z. tt) i name value taken (λ xs e free fits few. tt)
-  ack-read (delete i plain trailer) taken = decoder.delete-ways Acks D (λ a z. tt) i plain trailer taken (λ h there free. tt)
+  ack-read (delete i nontrailer trailer) taken = decoder.delete-ways Acks D (λ a z. tt) i nontrailer trailer taken (λ h there free. tt)
   ack-read (acknowledge i) taken = decoder.acknowledge-ways Acks D (λ a z. tt) i taken
 
   ack-call : (c : DecoderCall) → Acknowledges (decoderCall D c .output)

@@ -13,7 +13,7 @@ use Rattle.blocks.specs.Representation.{Representation}
 use Rattle.blocks.specs.Meaning.{blockReferences}
 use Rattle.model.specs.Table.{size, look, put, cut}
 use Rattle.model.specs.Parts.{Part, nontrailer, trailer, Marks, streams}
-use Rattle.model.specs.Encoder.{Sent, sentIndex, Encoder, sentSize, withSent, asDeleted, deleteAt, mentions, referred, refer, FineSent}
+use Rattle.model.specs.Encoder.{Sent, sentIndex, Encoder, sentSize, withSent, asDeleted, markDeleted, mentions, referred, refer, FineSent}
 use Rattle.model.specs.Encoder.{FormsEncoder, withWritten}
 use Rattle.model_laws.proofs.Tables.{nope, look-put, asc-put, total-put, length-put, look-cut, asc-cut, total-cut, length-cut, look-map, asc-map}
 use Rattle.model_laws.proofs.Tables.{total-map}
@@ -21,15 +21,15 @@ use Rattle.model_laws.proofs.Tables.{total-map}
 -- ---- what a delete and a block change of an entry: not what it holds; horizons stay at most 4,096
 
 module _ (i : ℕ) (e : Sent) where
-  pub delete-entry : deleteAt i e .entry ≡ e .entry
-  unfolding deleteAt
+  pub delete-entry : markDeleted i e .entry ≡ e .entry
+  unfolding markDeleted
   delete-entry = pick-both (λ (x : Sent). x .entry ≡ e .entry) (eqb (e .index) i) (asDeleted e) e (λ t. refl) (λ t. refl)
 
-  pub delete-fine : FineSent e → FineSent (deleteAt i e)
-  unfolding deleteAt
+  pub delete-fine : FineSent e → FineSent (markDeleted i e)
+  unfolding markDeleted
   delete-fine f =
       pick-both FineSent (eqb (e .index) i) (asDeleted e) e
-      (λ t. record { low = f .low; high = f .high; name = f .name; value = f .value; plain = f .plain; trailer = f .trailer })
+      (λ t. record { low = f .low; high = f .high; name = f .name; value = f .value; nontrailer = f .nontrailer; trailer = f .trailer })
       (λ t. f)
 
 module _ (s : ℕ) (p : Part) (rs : List Representation) where
@@ -44,9 +44,9 @@ module _ (s : ℕ) (p : Part) (rs : List Representation) where
   referred-fine : (q : Part) (e : Sent) → s < streams → FineSent e → FineSent (referred s q e)
   unfolding referred
   referred-fine nontrailer e h f =
-      record { low = f .low; high = f .high; name = f .name; value = f .value; plain = raised (e .plain) (f .plain) h; trailer = f .trailer }
+      record { low = f .low; high = f .high; name = f .name; value = f .value; nontrailer = raised (e .nontrailer) (f .nontrailer) h; trailer = f .trailer }
   referred-fine trailer e h f =
-      record { low = f .low; high = f .high; name = f .name; value = f .value; plain = f .plain; trailer = raised (e .trailer) (f .trailer) h }
+      record { low = f .low; high = f .high; name = f .name; value = f .value; nontrailer = f .nontrailer; trailer = raised (e .trailer) (f .trailer) h }
 
   pub refer-entry : (e : Sent) → refer s p rs e .entry ≡ e .entry
   unfolding refer

@@ -18,7 +18,7 @@ use Rattle.model.specs.Table.{Ascending, look, put, cut}
 use Rattle.model.specs.Parts.{Part, nontrailer, trailer, Delete}
 use Rattle.model.specs.Outcome.{Output, nothing, instruction, block, fields, Outcome}
 use Rattle.model.specs.Decoder.{nameBytes, isSome}
-use Rattle.model.specs.Encoder.{Encoder, Sent, sentIndex, newSent, emptyList, asDeleted, deleteAt, mentions, referred, refer}
+use Rattle.model.specs.Encoder.{Encoder, Sent, sentIndex, newSent, emptyList, asDeleted, markDeleted, mentions, referred, refer}
 use Rattle.model.specs.EncoderCalls.{EncoderCall, encoderCall}
 use Rattle.model.specs.EncoderCalls as at-encoder
 use Rattle.model.specs.Happened.{Happened, inserted, deleted, freed, after, heldBy, deletionBy, Contents, empty, named, entryOf, contentsBy}
@@ -34,7 +34,7 @@ use Rattle.model_laws.proofs.SentChanges.{delete-entry, refer-entry}
 unfoldable pub wroteDelete : Output → List Happened
 wroteDelete nothing = []
 wroteDelete (instruction (insert i name value)) = []
-wroteDelete (instruction (delete i plain last)) = deleted (record { index = i; plain = plain; trailer = last }) ∷ []
+wroteDelete (instruction (delete i first last)) = deleted (record { index = i; nontrailer = first; trailer = last }) ∷ []
 wroteDelete (instruction (acknowledge i)) = []
 wroteDelete (block rs) = []
 wroteDelete (fields fs) = []
@@ -75,12 +75,12 @@ told-append t h d l xs ys T = record {
 }
 
 -- ---- what a delete and a block change of an entry's deletion
-delete-gone : (i : ℕ) (e : Sent) → e .index ≡ i → underDeletion (some (deleteAt i e)) ≡ true
-unfolding deleteAt underDeletion
+delete-gone : (i : ℕ) (e : Sent) → e .index ≡ i → underDeletion (some (markDeleted i e)) ≡ true
+unfolding markDeleted underDeletion
 delete-gone i e q = pick-eq (λ (x : Sent). x .deleted ≡ true) (e .index) i (asDeleted e) e (λ z. refl) (λ z. absurd (z q))
 
-delete-kept : (i : ℕ) (e : Sent) → (e .index ≡ i → ⊥) → underDeletion (some (deleteAt i e)) ≡ underDeletion (some e)
-unfolding deleteAt underDeletion
+delete-kept : (i : ℕ) (e : Sent) → (e .index ≡ i → ⊥) → underDeletion (some (markDeleted i e)) ≡ underDeletion (some e)
+unfolding markDeleted underDeletion
 delete-kept i e n = pick-eq (λ (x : Sent). x .deleted ≡ e .deleted) (e .index) i (asDeleted e) e (λ z. absurd (n z)) (λ z. refl)
 
 referred-gone : (s : ℕ) (p : Part) (e : Sent) → referred s p e .deleted ≡ e .deleted
@@ -174,18 +174,18 @@ module _ (l : List Sent) (t : Contents) (h : ℕ → Bool) (d : ℕ → Option D
       gone (some e) = refer-gone s p rs e
 
   -- a delete: of the entry that it found
-  told-delete : (e : Sent) (plain last : StreamList) → look sentIndex (e .index) l ≡ some e
-      → ToldAfter t h d (deleted (record { index = e .index; plain = plain; trailer = last }) ∷ []) (map (deleteAt (e .index)) l)
+  told-delete : (e : Sent) (first last : StreamList) → look sentIndex (e .index) l ≡ some e
+      → ToldAfter t h d (deleted (record { index = e .index; nontrailer = first; trailer = last }) ∷ []) (map (markDeleted (e .index)) l)
   unfolding after contentsBy heldBy deletionBy
-  told-delete e plain last there =
-      told-map (deleteAt (e .index)) (delete-index (e .index)) (delete-entry (e .index)) (λ i. pick (eqb (e .index) i) (some x) (d i))
+  told-delete e first last there =
+      told-map (markDeleted (e .index)) (delete-index (e .index)) (delete-entry (e .index)) (λ i. pick (eqb (e .index) i) (some x) (d i))
       (λ i. go i (look sentIndex i l) refl (eqb (e .index) i) refl)
     where
       x : Delete
-      x = record { index = e .index; plain = plain; trailer = last }
+      x = record { index = e .index; nontrailer = first; trailer = last }
 
       go : (i : ℕ) (o : Option Sent) → look sentIndex i l ≡ o → (b : Bool) → eqb (e .index) i ≡ b
-          → isSome (pick b (some x) (d i)) ≡ underDeletion (Option·map (deleteAt (e .index)) o)
+          → isSome (pick b (some x) (d i)) ≡ underDeletion (Option·map (markDeleted (e .index)) o)
       go i none q true z = let n = ap (λ (k : ℕ). look sentIndex k l) (eqb-true (e .index) i z) in nope (cc)
       go i none q false z = T .deletion i ∙ ap underDeletion q
       go i (some y) q true z = sym (delete-gone (e .index) y (look-index sentIndex i l y q ∙ sym (eqb-true (e .index) i z)))
@@ -209,7 +209,7 @@ module _ (t : Contents) (h : ℕ → Bool) (d : ℕ → Option Delete) (E : Enco
   told-call (at-encoder.delete i room) =
       encoder.delete-ways (λ o. ToldAfter t h d (wroteDelete (o .output)) (o .state .entries)) E
       (λ n z. told-nothing (E .entries) t h d T) i room
-      (λ e f g m. told-delete (E .entries) t h d T e (emptyList (e .plain)) (emptyList (e .trailer))
+      (λ e f g m. told-delete (E .entries) t h d T e (emptyList (e .nontrailer)) (emptyList (e .trailer))
       (ap (λ (k : ℕ). look sentIndex k (E .entries)) (look-index sentIndex i (E .entries) e f) ∙ f))
   told-call (at-encoder.block s part fs room) =
       encoder.block-ways (λ o. ToldAfter t h d [] (o .state .entries)) E (λ n z. told-nothing (E .entries) t h d T) s part fs room

@@ -38,7 +38,7 @@ module _ (t : Contents) where
   unfolding sumOf addedBy wroteDelete
   output-added nothing = refl
   output-added (instruction (insert i name value)) = refl
-  output-added (instruction (delete i plain last)) = refl
+  output-added (instruction (delete i first last)) = refl
   output-added (instruction (acknowledge i)) = refl
   output-added (block rs) = refl
   output-added (fields fs) = refl
@@ -47,7 +47,7 @@ module _ (t : Contents) where
   unfolding sumOf removedBy wroteDelete
   output-removed nothing = refl
   output-removed (instruction (insert i name value)) = refl
-  output-removed (instruction (delete i plain last)) = refl
+  output-removed (instruction (delete i first last)) = refl
   output-removed (instruction (acknowledge i)) = refl
   output-removed (block rs) = refl
   output-removed (fields fs) = refl

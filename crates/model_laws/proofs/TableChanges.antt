@@ -27,7 +27,7 @@ module _ (D : Decoder) (F : FormsDecoder D) where
         few = F .few;
         order = F .order;
         entries = F .entries;
-        deletes = λ i d e. let x = F .deletes i d e in record { plain = x .plain; trailer = x .trailer; held = x .held };
+        deletes = λ i d e. let x = F .deletes i d e in record { nontrailer = x .nontrailer; trailer = x .trailer; held = x .held };
         once = F .once;
       }
 
@@ -56,14 +56,14 @@ module _ (D : Decoder) (F : FormsDecoder D) where
           order = asc-put heldIndex 62 h (D .entries) (fine .index .0) free (F .order);
           entries = put-entries fine;
           deletes =
-              λ i d e. let x = F .deletes i d e in record { plain = x .plain; trailer = x .trailer; held = put-held (d .index) (x .held) };
+              λ i d e. let x = F .deletes i d e in record { nontrailer = x .nontrailer; trailer = x .trailer; held = put-held (d .index) (x .held) };
           once = F .once;
         }
 
   -- a delete of an entry that is held and not under deletion
   module _ (d : Delete) (fine : FineDelete D d) (free : look deleteIndex (d .index) (D .deletes) ≡ none) where
     still : (x : Delete) → FineDelete D x → FineDelete (withDelete D d) x
-    still x f = record { plain = f .plain; trailer = f .trailer; held = f .held }
+    still x f = record { nontrailer = f .nontrailer; trailer = f .trailer; held = f .held }
 
     last-delete : (i : ℕ) (x : Delete) → look deleteIndex i (d ∷ []) ≡ some x → FineDelete (withDelete D d) x
     unfolding look
@@ -111,7 +111,7 @@ module _ (D : Decoder) (F : FormsDecoder D) where
         let x = F .deletes j d q in
         let other : eqb (h .index) (d .index) ≡ false = ap (eqb (h .index)) (look-index deleteIndex j (D .deletes) d q) ∙ t in
         record {
-          plain = x .plain;
+          nontrailer = x .nontrailer;
           trailer = x .trailer;
           held =
               rw (look-cut heldIndex (h .index) (d .index) 62 (D .entries) (F .order), other) (x .held);

@@ -17,22 +17,22 @@ use Rattle.model.specs.Decoder.{Held, heldIndex, deleteIndex, Decoder, heldSize
 use Rattle.model.specs.Encoder.{Sent, sentIndex}
 use Rattle.model_laws.proofs.Slots.Machine.{DeleteLists, noLists, DecoderSlot, emptySlot, liveSlot, deletedSlot, DecoderSlots, NameSource, ownName}
 use Rattle.model_laws.proofs.Slots.Machine.{nameOfSlot, SlotInstruction, insertSlot, deleteSlot, Item, given, byIndex, byName, DecoderTables}
-use Rattle.model_laws.proofs.Slots.Machine.{fieldOf, fieldNamed}
+use Rattle.model_laws.proofs.Slots.Machine.{entryField, fieldNamed}
 use Rattle.model_laws.proofs.Slots.Messages.{EncoderSlot, freeSent, liveSent, deletedSent}
 
 -- ---- the decoder
 
 -- two stream lists as a delete carries them
 abbrev pub listsBy : StreamList → StreamList → DeleteLists
-listsBy plain trailer = record {
-  plainHorizon = plain .horizon;
-  plainStreams = plain .streams;
+listsBy nontrailer trailer = record {
+  nontrailerHorizon = nontrailer .horizon;
+  nontrailerStreams = nontrailer .streams;
   trailerHorizon = trailer .horizon;
   trailerStreams = trailer .streams;
 }
 
 abbrev pub listsOf : Delete → DeleteLists
-listsOf d = listsBy (d .plain) (d .trailer)
+listsOf d = listsBy (d .nontrailer) (d .trailer)
 
 -- a slot, from the entry held there and its delete
 abbrev pub slotAt : Option Held → Option Delete → DecoderSlot
@@ -55,11 +55,11 @@ sourceOf (by-bytes name) value = ownName (record { name = name; value = value })
 -- an acknowledgement never comes to the decoder
 unfoldable pub slotInstruction : Instruction → SlotInstruction
 slotInstruction (insert i name value) = insertSlot i (sourceOf name value)
-slotInstruction (delete i plain trailer) = deleteSlot i (listsBy plain trailer)
+slotInstruction (delete i nontrailer trailer) = deleteSlot i (listsBy nontrailer trailer)
 slotInstruction (acknowledge i) = deleteSlot i noLists
 
 unfoldable pub slotItem : Representation → Item
-slotItem (indexed i) = pick (isStatic i) (given (fieldOf (entryAt i))) (byIndex i)
+slotItem (indexed i) = pick (isStatic i) (given (entryField (entryAt i))) (byIndex i)
 slotItem (literal flag (by-index i) value) = pick (isStatic i) (given (fieldNamed flag value (entryAt i))) (byName i flag value)
 slotItem (literal flag (by-bytes name) value) = given (record { flag = flag; name = name; value = value })
 
@@ -70,7 +70,7 @@ slotItems (r ∷ rs) = slotItem r ∷ slotItems rs
 -- ---- the encoder: its horizons are the lists that a delete would be written with
 
 abbrev pub listsSent : Sent → DeleteLists
-listsSent e = record { plainHorizon = e .plain; plainStreams = []; trailerHorizon = e .trailer; trailerStreams = [] }
+listsSent e = record { nontrailerHorizon = e .nontrailer; nontrailerStreams = []; trailerHorizon = e .trailer; trailerStreams = [] }
 
 abbrev pub slotSent : Bool → Entry → DeleteLists → EncoderSlot
 slotSent false c ls = liveSent c ls

@@ -69,7 +69,7 @@ horizonSince i p h E [] = h
 horizonSince i p h E (c ∷ cs) = horizonSince i p (horizonAfter i p h E c) (encoderCall E c .state) cs
 
 abbrev pub horizonOf : Part → Sent → ℕ
-horizonOf nontrailer e = e .plain
+horizonOf nontrailer e = e .nontrailer
 horizonOf trailer e = e .trailer
 
 -- ---- the claims

@@ -103,7 +103,7 @@ writtenIn es = writtenFrom 0 es
 -- "At the decoder a slot is empty except from an insert there answered "done" to the collect that frees it."
 abbrev pub heldBy : Instruction → ℕ → ℕ → Bool → Bool
 heldBy (insert j name value) n i h = pick (eqb n 0 && eqb j i) true h
-heldBy (delete j plain last) n i h = h
+heldBy (delete j first last) n i h = h
 heldBy (acknowledge j) n i h = h
 
 unfoldable pub heldFrom : Bool → List Event → ℕ → Bool

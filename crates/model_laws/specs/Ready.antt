@@ -8,7 +8,7 @@ use mathlib.Core.Option.{none, some}
 use mathlib.Core.List.{List, [], _∷_}
 use lib.ListN.{length}
 use Rattle.integers.specs.Answers.{no-room}
-use Rattle.instructions.specs.Instruction.{acknowledge, Manages, Fine, instructionWire}
+use Rattle.instructions.specs.Instruction.{acknowledge, Manages, FineInstruction, instructionWire}
 use Rattle.blocks.specs.Representation.{Representation, AllFine}
 use Rattle.blocks.specs.Meaning.{Refers}
 use Rattle.model.specs.Parts.{Part, partNumber, Delete, namesPart}
@@ -18,7 +18,7 @@ use Rattle.model.specs.DecoderCalls.{DecoderCall, read, block, close, collect, 
 
 -- what the reader of instructions can give: fine inserts and deletes
 abbrev pub FineCall : DecoderCall → Type 0
-FineCall (read i taken) = Manages i × Fine i
+FineCall (read i taken) = Manages i × FineInstruction i
 FineCall (block s part rs room) = Unit {0}
 FineCall (close k s) = Unit {0}
 FineCall (collect room) = Unit {0}

@@ -15,9 +15,9 @@ use Rattle.parts.specs.Turn.{partTurn}
 
 -- ---- part numbers
 
-plain-part : (n : ℕ) → n ≡ 0 → partOf n ≡ some nontrailer
+nontrailer-part : (n : ℕ) → n ≡ 0 → partOf n ≡ some nontrailer
 unfolding partOf
-plain-part n e = pick-true _ _ _ (eq-eqb n 0 e)
+nontrailer-part n e = pick-true _ _ _ (eq-eqb n 0 e)
 
 trailer-part : (n : ℕ) → n ≡ 1 → partOf n ≡ some trailer
 unfolding partOf
@@ -48,9 +48,9 @@ module _ (m : List ℕ) (s : ℕ) (fits : s < streams) where
   unfolding marksOf
   marked p = pick-true _ _ _ (lt-ltb s streams fits)
 
-  plain-turn : inTurn (marksOf m) s nontrailer ≡ isSet m (marksPlace nontrailer) s
+  nontrailer-turn : inTurn (marksOf m) s nontrailer ≡ isSet m (marksPlace nontrailer) s
   unfolding inTurn
-  plain-turn = ap not (marked nontrailer) ∙ twice _
+  nontrailer-turn = ap not (marked nontrailer) ∙ twice _
 
   trailer-turn : inTurn (marksOf m) s trailer ≡ not (isSet m (marksPlace nontrailer) s) && isSet m (marksPlace trailer) s
   unfolding inTurn
@@ -70,8 +70,8 @@ module _ (m : List ℕ) (s n : ℕ) where
   turn-no-part z o = ap (partTurn (marksOf m) s) (no-part n z o)
 
   module _ (fits : s < streams) where
-    pub turn-plain : n ≡ 0 → Turn ≡ isSet m (marksPlace nontrailer) s
-    turn-plain e = ap (partTurn (marksOf m) s) (plain-part n e) ∙ below (marksOf m) s nontrailer fits ∙ plain-turn m s fits
+    pub turn-nontrailer : n ≡ 0 → Turn ≡ isSet m (marksPlace nontrailer) s
+    turn-nontrailer e = ap (partTurn (marksOf m) s) (nontrailer-part n e) ∙ below (marksOf m) s nontrailer fits ∙ nontrailer-turn m s fits
 
     trailer-both : n ≡ 1 → Turn ≡ not (isSet m (marksPlace nontrailer) s) && isSet m (marksPlace trailer) s
     trailer-both e = ap (partTurn (marksOf m) s) (trailer-part n e) ∙ below (marksOf m) s trailer fits ∙ trailer-turn m s fits

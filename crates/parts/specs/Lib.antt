@@ -1,2 +1,3 @@
 -- Parts of streams in memory.
 pub mod Turn
+pub mod Hold

@@ -5,9 +5,12 @@ ghost use lib.ListN.{length};
 ghost use Rattle.model.specs.Parts.{partOf};
 ghost use Rattle.state.specs.Front.{marksOf};
 ghost use Rattle.parts.specs.Turn.{partTurn};
+
+pub mod hold;
+
 use integers::number::StreamNumber;
 use marks::mark::is_set;
-use state::layout::PLAIN_MARKS;
+use state::layout::NONTRAILER_MARKS;
 use state::layout::TRAILER_MARKS;
 
 // Is this part of this stream in turn? A set mark says that the part is unfinished, or not written yet.
@@ -21,7 +24,7 @@ pub fn in_turn(m: &[u8], stream: u64, part: u64) -> bool
     let s = StreamNumber {
         value: stream as u16,
     };
-    let open = is_set(m, PLAIN_MARKS, s);
+    let open = is_set(m, NONTRAILER_MARKS, s);
     if part == 0 {
         return open;
     }
@@ -39,5 +42,5 @@ pub fn marks_place(part: u64) -> usize
     requires { ⌜ part ≤ 1 ⌝ }
     ensures { λ r. ⌜ r ≡ 64 + 512 * part ⌝ }
 {
-    PLAIN_MARKS + 512 * (part as usize)
+    NONTRAILER_MARKS + 512 * (part as usize)
 }

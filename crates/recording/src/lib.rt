@@ -1,9 +1,9 @@
 // A line of a recording (docs/RECORDINGS.md): a comment, a call with its numbers and bytes, or neither.
-use words;
-use words::BytesRead;
-use words::NumberRead;
-use words::is;
-use words::next_word;
+use tokens;
+use tokens::BytesRead;
+use tokens::NumberRead;
+use tokens::is;
+use tokens::next_word;
 
 // How many bytes of output are lent where a line does not say it, and the most that it can say.
 pub const MOST_ROOM: usize = 65_536;
@@ -170,7 +170,7 @@ fn read_numbers(count: u8, text: &[u8], at: usize) -> NumbersRead {
     let w = next_word(text, at);
     let from = w.from;
     let to = w.to;
-    let a = words::number(&text[from..to]);
+    let a = tokens::number(&text[from..to]);
     let NumberRead::Value(first) = a else {
         return NumbersRead::Bad;
     };
@@ -180,7 +180,7 @@ fn read_numbers(count: u8, text: &[u8], at: usize) -> NumbersRead {
     let v = next_word(text, to);
     let start = v.from;
     let end = v.to;
-    let b = words::number(&text[start..end]);
+    let b = tokens::number(&text[start..end]);
     let NumberRead::Value(second) = b else {
         return NumbersRead::Bad;
     };
@@ -195,7 +195,7 @@ fn read_strings(count: u8, text: &[u8], at: usize, bytes: &mut [u8]) -> StringsR
     let w = next_word(text, at);
     let from = w.from;
     let to = w.to;
-    let a = words::bytes(&text[from..to], bytes, 0);
+    let a = tokens::bytes(&text[from..to], bytes, 0);
     let BytesRead::Put(split) = a else {
         return StringsRead::Bad;
     };
@@ -205,7 +205,7 @@ fn read_strings(count: u8, text: &[u8], at: usize, bytes: &mut [u8]) -> StringsR
     let v = next_word(text, to);
     let start = v.from;
     let end = v.to;
-    let b = words::bytes(&text[start..end], bytes, split);
+    let b = tokens::bytes(&text[start..end], bytes, split);
     let BytesRead::Put(after) = b else {
         return StringsRead::Bad;
     };
@@ -223,7 +223,7 @@ fn read_room(output: bool, text: &[u8], at: usize) -> RoomRead {
     if !output {
         return RoomRead::Bad(Fault::MoreWords);
     }
-    let r = words::number(&text[from..to]);
+    let r = tokens::number(&text[from..to]);
     let NumberRead::Value(room) = r else {
         return RoomRead::Bad(Fault::BadRoom);
     };

@@ -1,8 +1,8 @@
 // One recording: its lines, one after another, on two memories.
 use crate::outcome::not_a_call;
 use crate::outcome::outcome;
-use perform::line::Ran;
-use perform::line::run_line;
+use recorded_call::line::Ran;
+use recorded_call::line::run_line;
 use text_io::lines::Next;
 use text_io::lines::Reader;
 use text_io::lines::next_line;

@@ -1,1 +1,1 @@
-pub mod Unpack
+pub mod Joined

@@ -1,7 +1,7 @@
 // What a call answers: the number of document 01's table, and two told numbers.
 ghost use mathlib.Core.Path.{_≡_};
 ghost use Rattle.integers.specs.Answers.{done, refusal};
-ghost use Rattle.reply.specs.Reply.{answerOf, packed, Narrow};
+ghost use Rattle.reply.specs.Reply.{answerOf, joined, Narrow};
 use integers::answer::DONE;
 
 pub struct Reply {
@@ -34,9 +34,9 @@ impl Reply {
     }
 
     // The one number that a C host gets: answer, first from bit 8 on, second from bit 40 on.
-    pub fn pack(self) -> u64
+    pub fn join(self) -> u64
         requires { ⌜ Narrow (answerOf self) ⌝ }
-        ensures { λ r. ⌜ r ≡ packed (answerOf self) ⌝ }
+        ensures { λ r. ⌜ r ≡ joined (answerOf self) ⌝ }
     {
         (self.number as u64) + 256 * (self.first as u64) + 1_099_511_627_776 * (self.second as u64)
     }

@@ -6,7 +6,7 @@ use Prim.Native.Nat.{ℕ, _+_, _*_, _≤_, _<_}
 use borrow.Author.Tests.{le-leb, lt-leb}
 use Rattle.memory.specs.Compare.{same}
 use Rattle.fields.specs.Form.{Field}
-use Rattle.words.specs.declared.NumberRead.the-variants.{Value}
+use Rattle.tokens.specs.declared.NumberRead.the-variants.{Value}
 use Rattle.reports.specs.Report.{fromNumber, withValue, withField, said, combined}
 use Rattle.reports.specs.declared.hours.Said.{Said}
 use Rattle.reports.specs.declared.hours.Said.the-variants.{Once, Unclear}

@@ -5,10 +5,10 @@ use lib.Dec.{leb}
 use Rattle.memory.specs.Choice.{pick}
 use Rattle.memory.specs.Compare.{same}
 use Rattle.fields.specs.Form.{Field}
-use Rattle.fields.specs.Reading.{ListRead, ListRead.list, ListRead.refused}
-use Rattle.words.specs.Numbers.{numberOf}
-use Rattle.words.specs.declared.NumberRead.{NumberRead}
-use Rattle.words.specs.declared.NumberRead.the-variants.{Value, Bad}
+use Rattle.fields.specs.Reading.{FieldListRead, FieldListRead.list, FieldListRead.refused}
+use Rattle.tokens.specs.Numbers.{numberOf}
+use Rattle.tokens.specs.declared.NumberRead.{NumberRead}
+use Rattle.tokens.specs.declared.NumberRead.the-variants.{Value, Bad}
 use Rattle.reports.specs.declared.hours.Said.{Said}
 use Rattle.reports.specs.declared.hours.Said.the-variants.{Nothing, Once, Unclear}
 use Rattle.reports.specs.declared.hours.Hours.{Hours}
@@ -48,6 +48,6 @@ combined (Once t) Unclear = Unknown
 combined Nothing c = Unknown
 combined Unclear c = Unknown
 
-unfoldable pub hoursOf : ListRead → Hours
+unfoldable pub hoursOf : FieldListRead → Hours
 hoursOf (list fs) = combined (said turnsName fs Nothing) (said hoursName fs Nothing)
 hoursOf (refused number) = Unknown

@@ -1,15 +1,15 @@
 // The hours of a report: a counter of tenths of an hour, and how often it has turned over.
 ghost use mathlib.Core.Path.{_≡_};
-ghost use Rattle.fields.specs.Reading.{readList, textOf, fieldOf, InText};
-ghost use Rattle.words.specs.Numbers.{numberOf};
+ghost use Rattle.fields.specs.Reading.{readFieldList, textOf, fieldOf, InText};
+ghost use Rattle.tokens.specs.Numbers.{numberOf};
 ghost use Rattle.reports.specs.Report.{fromNumber, withValue, withField, combined, hoursOf};
 use fields::read::FieldPlace;
 use fields::read::FieldRead;
 use fields::read::TextPlace;
 use fields::read::read_field;
-use words::NumberRead;
-use words::is;
-use words::number;
+use tokens::NumberRead;
+use tokens::is;
+use tokens::number;
 
 // What a list says under a name: nothing, a number once, or nothing that counts, since it is said twice or is no number of 0 to 65,535.
 pub enum Said {
@@ -89,7 +89,7 @@ fn with_field(told: Said, name: &[u8], list: &[u8], place: FieldPlace) -> Said
 
 // The hours that a field list says: under `turns` and under `hours` it has one field each, with a number of 0 to 65,535.
 pub fn read_hours(list: &[u8]) -> Hours
-    ensures { λ r. ⌜ r ≡ hoursOf (readList (now (list .entry))) ⌝ }
+    ensures { λ r. ⌜ r ≡ hoursOf (readFieldList (now (list .entry))) ⌝ }
 {
     let mut turns = Said::Nothing;
     let mut counter = Said::Nothing;

@@ -9,7 +9,7 @@ use fields::read::read_field;
 use text_io::print;
 
 // Is the character shown as it is? Printable ASCII is, but for what the form itself uses: what follows a `=` is never a part of a field.
-fn plain(c: u8) -> bool {
+fn printable(c: u8) -> bool {
     match c {
         b'\\' | b',' | b'=' => false,
         b' '..=b'~' => true,
@@ -19,7 +19,7 @@ fn plain(c: u8) -> bool {
 
 // A character: as it is, or as two hexadecimal digits after \x.
 fn character(out: &mut [u8], n: usize, c: u8) -> usize {
-    if plain(c) {
+    if printable(c) {
         return print::byte(out, n, c);
     }
     let k = print::words(out, n, b"\\x");

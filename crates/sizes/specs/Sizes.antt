@@ -24,7 +24,7 @@ insertTextSize index name value = intSize 7 index + (1 + stringSize name + strin
 
 -- a delete with empty lists
 unfoldable pub deleteSize : ℕ → ℕ → ℕ → ℕ
-deleteSize index plain trailer = intSize 6 index + (intSize 8 plain + 1 + (intSize 8 trailer + 1))
+deleteSize index nontrailer trailer = intSize 6 index + (intSize 8 nontrailer + 1 + (intSize 8 trailer + 1))
 
 -- "Literal is bit 0, N, name index (6-bit prefix; 0 means a name string follows), value string."
 unfoldable pub literalIndexSize : ℕ → ℕ → ℕ

@@ -62,10 +62,10 @@ pub fn insert_text_size(index: u32, name: usize, value: usize) -> usize
     int_size(index, 7, 127) + (1 + string_size(name) + string_size(value))
 }
 
-pub fn delete_size(index: u32, plain: u32, trailer: u32) -> usize
-    ensures { λ r. ⌜ (r ≡ deleteSize index plain trailer) × (r ≤ 17) ⌝ }
+pub fn delete_size(index: u32, nontrailer: u32, trailer: u32) -> usize
+    ensures { λ r. ⌜ (r ≡ deleteSize index nontrailer trailer) × (r ≤ 17) ⌝ }
 {
-    int_size(index, 6, 63) + (int_size(plain, 8, 255) + 1 + (int_size(trailer, 8, 255) + 1))
+    int_size(index, 6, 63) + (int_size(nontrailer, 8, 255) + 1 + (int_size(trailer, 8, 255) + 1))
 }
 
 pub fn literal_index_size(name: u32, value: usize) -> usize

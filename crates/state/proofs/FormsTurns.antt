@@ -122,15 +122,15 @@ module _ (m : List ℕ) (n k : ℕ) where
         let e : n - k ≡ suc (n - (k + 1)) = omega arith in
         ap (λ (x : ℕ). deletesOk m x k) e ∙ rw place refl
 
-    pub deletes-plain : listOk m (at + 4) ≡ false → deletesOk m (n - k) k ≡ false
-    deletes-plain e = lists ∙ rw e refl
+    pub deletes-nontrailer : listOk m (at + 4) ≡ false → deletesOk m (n - k) k ≡ false
+    deletes-nontrailer e = lists ∙ rw e refl
 
-    module _ (plain : listOk m (at + 4) ≡ true) where
+    module _ (nontrailer : listOk m (at + 4) ≡ true) where
       pub deletes-trailer : listOk m (at + 40) ≡ false → deletesOk m (n - k) k ≡ false
-      deletes-trailer e = lists ∙ rw (plain, e) refl
+      deletes-trailer e = lists ∙ rw (nontrailer, e) refl
 
       pub deletes-turn : listOk m (at + 40) ≡ true → deletesOk m (n - k) k ≡ deletesOk m (n - (k + 1)) (k + 1)
-      deletes-turn e = lists ∙ rw (plain, e) refl
+      deletes-turn e = lists ∙ rw (nontrailer, e) refl
 
   pub deletes-end : n ≤ k → deletesOk m (n - k) k ≡ true
   unfolding deletesOk

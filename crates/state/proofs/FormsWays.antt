@@ -163,8 +163,8 @@ module _ (m : List ℕ) (i at : ℕ) (place : at ≡ rowPlace i) where
       unfolding referenceOk
       horizons = rw (e, index-is, sym place, le-leb (number 2 m (at + 10)) 1 known) refl
 
-      pub reference-plain : 4096 < number 2 m there → referenceOk m i ≡ false
-      reference-plain h = horizons ∙ rw (lt-leb (number 2 m there) 4096 h) refl
+      pub reference-nontrailer : 4096 < number 2 m there → referenceOk m i ≡ false
+      reference-nontrailer h = horizons ∙ rw (lt-leb (number 2 m there) 4096 h) refl
 
       pub reference-trailer : number 2 m there ≤ 4096 → referenceOk m i ≡ leb (number 2 m (there + 38)) 4096
       reference-trailer h = horizons ∙ rw (le-leb (number 2 m there) 4096 h) refl

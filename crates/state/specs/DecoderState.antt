@@ -25,7 +25,7 @@ unfoldable pub listAt : List ℕ → ℕ → StreamList
 listAt m at = record { horizon = number 2 m at; streams = streamsAt (number 2 m (at + 2)) m (at + 4) }
 
 unfoldable pub deleteAt : List ℕ → ℕ → Delete
-deleteAt m k = record { index = number 4 m (deletePlace k); plain = listAt m (deletePlace k + 4); trailer = listAt m (deletePlace k + 40) }
+deleteAt m k = record { index = number 4 m (deletePlace k); nontrailer = listAt m (deletePlace k + 4); trailer = listAt m (deletePlace k + 40) }
 
 -- the n deletes from delete k on
 unfoldable pub deletesOf : List ℕ → ℕ → ℕ → List Delete
@@ -56,7 +56,7 @@ listBytes l =
     numberBytes 2 (l .horizon) ++ (numberBytes 2 (length (l .streams)) ++ (streamsBytes (l .streams) ++ replicate (32 - 2 * length (l .streams)) 0))
 
 unfoldable pub deleteBytes : Delete → List ℕ
-deleteBytes d = numberBytes 4 (d .index) ++ (listBytes (d .plain) ++ listBytes (d .trailer))
+deleteBytes d = numberBytes 4 (d .index) ++ (listBytes (d .nontrailer) ++ listBytes (d .trailer))
 
 unfoldable pub deletesBytes : List Delete → List ℕ
 deletesBytes [] = []

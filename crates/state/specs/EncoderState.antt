@@ -13,8 +13,8 @@ use Rattle.state.specs.Front.{Front, marksOf, overlayFront}
 
 -- ---- reading
 
-abbrev pub plainAt : List ℕ → ℕ → ℕ
-plainAt m index = number 2 m (referencePlace index)
+abbrev pub nontrailerAt : List ℕ → ℕ → ℕ
+nontrailerAt m index = number 2 m (referencePlace index)
 
 abbrev pub trailerAt : List ℕ → ℕ → ℕ
 trailerAt m index = number 2 m (referencePlace index + 38)
@@ -23,7 +23,7 @@ unfoldable pub sentOfRow : List ℕ → Row → Sent
 sentOfRow m r = record {
   index = r .index;
   entry = r .entry;
-  plain = plainAt m (r .index);
+  nontrailer = nontrailerAt m (r .index);
   trailer = trailerAt m (r .index);
   deleted = eqb (r .status) 1;
 }
@@ -42,7 +42,7 @@ encoderFront E = record { role = encoderRole; limit = E .limit; rows = map rowOf
 
 -- the two horizons of an entry, stored at its index
 unfoldable pub referenceOver : Sent → List ℕ → List ℕ
-referenceOver e m = overlay (overlay m (referencePlace (e .index)) (numberBytes 2 (e .plain))) (referencePlace (e .index) + 38) (numberBytes 2 (e .trailer))
+referenceOver e m = overlay (overlay m (referencePlace (e .index)) (numberBytes 2 (e .nontrailer))) (referencePlace (e .index) + 38) (numberBytes 2 (e .trailer))
 
 unfoldable pub referencesOver : List Sent → List ℕ → List ℕ
 referencesOver [] m = m

@@ -28,7 +28,7 @@ use Rattle.state.specs.Layout.{
   statusAt,
   restAt,
 }
-use Rattle.state.specs.EncoderState.{plainAt, trailerAt}
+use Rattle.state.specs.EncoderState.{nontrailerAt, trailerAt}
 
 -- enough bytes; role; edition; "a held size or limit above 4,096, does not" form a state; "The list has 128 places"; zeros to the head's end
 unfoldable pub headOk : ℕ → ℕ → List ℕ → Bool
@@ -87,7 +87,7 @@ formsDecoder m =
 
 -- under deletion or not, and both horizons at most 4,096
 unfoldable pub referenceOk : List ℕ → ℕ → Bool
-referenceOk m i = leb (statusAt m i) 1 && (leb (plainAt m (indexAt m i)) 4096 && leb (trailerAt m (indexAt m i)) 4096)
+referenceOk m i = leb (statusAt m i) 1 && (leb (nontrailerAt m (indexAt m i)) 4096 && leb (trailerAt m (indexAt m i)) 4096)
 
 -- "the lowest from 62 that is not held" is at most 189
 unfoldable pub formsEncoder : List ℕ → Bool

@@ -27,7 +27,7 @@ pub const HEAD_REST: usize = 10;
 pub const HEAD_ZEROS: usize = 54;
 
 // The marks of the two kinds of parts.
-pub const PLAIN_MARKS: usize = 64;
+pub const NONTRAILER_MARKS: usize = 64;
 
 pub const TRAILER_MARKS: usize = 576;
 

@@ -150,7 +150,7 @@ module _ (m : List ℕ) (small : Small m) (t : Told m) where
       deletes = λ i d e.
           let f = each-found FineLists deleteIndex (deletesIn m) (lists .1) i d e in
           let h = each-found (λ x. isSome (look rowIndex (x .index) rows) ≡ true) deleteIndex (deletesIn m) (tied .held) i d e in
-          record { plain = f .plain; trailer = f .trailer; held = found-made heldIndex heldOfRow (d .index) rows ∙ h };
+          record { nontrailer = f .nontrailer; trailer = f .trailer; held = found-made heldIndex heldOfRow (d .index) rows ∙ h };
       once = tied .once;
     };
     marks = marks-below m;

@@ -135,7 +135,7 @@ list-has m at small h e =
 -- a delete whose numbers fit their fields
 pub record FineLists (d : Delete) : Type 0 where
   pub index : d .index < 4294967296
-  pub plain : FineList (d .plain)
+  pub nontrailer : FineList (d .nontrailer)
   pub trailer : FineList (d .trailer)
 
 pub length-deleteBytes : (d : Delete) → FineLists d → length (deleteBytes d) ≡ 76
@@ -143,10 +143,10 @@ unfolding deleteBytes
 length-deleteBytes d f =
     omega (
       arith,
-      length-append (numberBytes 4 (d .index)) (listBytes (d .plain) ++ listBytes (d .trailer)),
-      length-append (listBytes (d .plain)) (listBytes (d .trailer)),
+      length-append (numberBytes 4 (d .index)) (listBytes (d .nontrailer) ++ listBytes (d .trailer)),
+      length-append (listBytes (d .nontrailer)) (listBytes (d .trailer)),
       length-numberBytes 4 (d .index),
-      length-listBytes (d .plain) (f .plain .1),
+      length-listBytes (d .nontrailer) (f .nontrailer .1),
       length-listBytes (d .trailer) (f .trailer .1),
     )
 
@@ -165,13 +165,13 @@ delete-back : (m : List ℕ) (k : ℕ) (d : Delete) → FineLists d → Has m (d
     → (deleteAt m k ≡ d) × (listOk m (deletePlace k + 4) ≡ true) × (listOk m (deletePlace k + 40) ≡ true)
 unfolding deleteAt deleteBytes
 delete-back m k d f h =
-    let p = number-then 4 m (deletePlace k) (d .index) (listBytes (d .plain) ++ listBytes (d .trailer)) h in
-    let e : deletePlace k + 4 + length (listBytes (d .plain)) ≡ deletePlace k + 40 = omega (arith, length-listBytes (d .plain) (f .plain .1)) in
+    let p = number-then 4 m (deletePlace k) (d .index) (listBytes (d .nontrailer) ++ listBytes (d .trailer)) h in
+    let e : deletePlace k + 4 + length (listBytes (d .nontrailer)) ≡ deletePlace k + 40 = omega (arith, length-listBytes (d .nontrailer) (f .nontrailer .1)) in
     let index : number 4 m (deletePlace k) ≡ d .index = number-back 4 m (deletePlace k) (d .index) (f .index) (p .0) in
-    let q = list-back m (deletePlace k + 4) (d .plain) (f .plain) (has-left m (deletePlace k + 4) (listBytes (d .plain)) (listBytes (d .trailer)) (p .1)) in
+    let q = list-back m (deletePlace k + 4) (d .nontrailer) (f .nontrailer) (has-left m (deletePlace k + 4) (listBytes (d .nontrailer)) (listBytes (d .trailer)) (p .1)) in
     let r = list-back m (deletePlace k + 40) (d .trailer) (f .trailer)
-    (rw e at (has-right m (deletePlace k + 4) (listBytes (d .plain)) (listBytes (d .trailer)) (p .1))) in
-    ((λ j. record { index = index j; plain = q .0 j; trailer = r .0 j }), q .1, r .1)
+    (rw e at (has-right m (deletePlace k + 4) (listBytes (d .nontrailer)) (listBytes (d .trailer)) (p .1))) in
+    ((λ j. record { index = index j; nontrailer = q .0 j; trailer = r .0 j }), q .1, r .1)
 
 delete-has : (m : List ℕ) (k : ℕ) → Small m → deletePlace k + 76 ≤ length m → listOk m (deletePlace k + 4) ≡ true → listOk m (deletePlace k + 40) ≡ true
     → Has m (deletePlace k) (deleteBytes (deleteAt m k)) × FineLists (deleteAt m k)
@@ -183,7 +183,7 @@ delete-has m k s h a b =
     let e : deletePlace k + 4 + length (listBytes l) ≡ deletePlace k + 40 = omega (arith, length-listBytes l (p .1 .1)) in (
       then-number 4 m (deletePlace k) _ _ (bytes-back 4 m (deletePlace k) s (omega arith))
           (has-join m (deletePlace k + 4) (listBytes l) _ (p .0) (rw e (q .0))),
-      record { index = number-bound 4 m (deletePlace k) s; plain = p .1; trailer = q .1 },
+      record { index = number-bound 4 m (deletePlace k) s; nontrailer = p .1; trailer = q .1 },
     )
 
 -- what follows a delete

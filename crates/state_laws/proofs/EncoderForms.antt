@@ -17,7 +17,7 @@ use Rattle.model_laws.proofs.Marks.{and-both}
 use Rattle.state.specs.Layout.{encoderLength, encoderRole, limitOf, countOf, deleteCount, indexAt, statusAt}
 use Rattle.state.specs.Rows.{Row, rowAt, rowsOf, textOf}
 use Rattle.state.specs.Front.{Front, marksOf}
-use Rattle.state.specs.EncoderState.{plainAt, trailerAt, sentOfRow, rowOfSent, encoderOf, encoderFront}
+use Rattle.state.specs.EncoderState.{nontrailerAt, trailerAt, sentOfRow, rowOfSent, encoderOf, encoderFront}
 use Rattle.state.specs.Forms.{headOk, rowsOk, referenceOk, formsEncoder}
 use Rattle.state_laws.specs.Laws.{FitsEncoder}
 use Rattle.state_laws.proofs.FrontHolds.{HoldsFront}
@@ -27,7 +27,7 @@ use Rattle.state_laws.proofs.FrontRead.{read-deletes, read-each}
 use Rattle.state_laws.proofs.FrontForms.{frontOf, HeadTold, head-told, rows-good, rows-ascending, also-each, front-holds, holds-head, holds-rows}
 use Rattle.state_laws.proofs.Each.{Each, each-found}
 use Rattle.state_laws.proofs.References.{HasReference, HasReferences}
-use Rattle.state_laws.proofs.SentRows.{SentRow, plain-back, trailer-back, sents-size, rows-back, rows-stand, rows-sent, rows-order}
+use Rattle.state_laws.proofs.SentRows.{SentRow, nontrailer-back, trailer-back, sents-size, rows-back, rows-stand, rows-sent, rows-order}
 use Rattle.state_laws.proofs.EncoderHolds.{HoldsEncoder, fits-each}
 
 -- ---- what passes is fine
@@ -37,7 +37,7 @@ module _ (m : List ℕ) where
   unfolding referenceOk
   told-row i low h good ok =
       let p = and-both (leb (statusAt m i) 1) _ ok in
-      let q = and-both (leb (plainAt m (indexAt m i)) 4096) _ (p .1) in
+      let q = and-both (leb (nontrailerAt m (indexAt m i)) 4096) _ (p .1) in
       let above = good .above in
       record {
         low = omega arith;
@@ -45,7 +45,7 @@ module _ (m : List ℕ) where
         name = good .name;
         value = good .value;
         status = leb-true _ _ (p .0);
-        plain = leb-true _ _ (q .0);
+        nontrailer = leb-true _ _ (q .0);
         trailer = leb-true _ _ (q .1);
       }
 
@@ -75,11 +75,11 @@ module _ (m : List ℕ) where
   unfolding referenceOk rowOfSent
   pass-row i o e fine has R =
       let at : indexAt m i ≡ e .index = R .index in
-      let p : plainAt m (indexAt m i) ≡ e .plain = ap (plainAt m) at ∙ plain-back m e fine has in
+      let p : nontrailerAt m (indexAt m i) ≡ e .nontrailer = ap (nontrailerAt m) at ∙ nontrailer-back m e fine has in
       let t : trailerAt m (indexAt m i) ≡ e .trailer = ap (trailerAt m) at ∙ trailer-back m e fine has in
       let s : statusAt m i ≤ 1 = rw (R .status) (pick-both (λ (n : ℕ). n ≤ 1) (e .deleted) 1 0 (λ z. omega arith) (λ z. omega arith)) in
       both _ _ (le-leb (statusAt m i) 1 s)
-      (both _ _ (le-leb (plainAt m (indexAt m i)) 4096 (omega (arith, fine .plain)))
+      (both _ _ (le-leb (nontrailerAt m (indexAt m i)) 4096 (omega (arith, fine .nontrailer)))
       (le-leb (trailerAt m (indexAt m i)) 4096 (omega (arith, fine .trailer))))
 
   pub pass-rows : (es : List Sent) (i o : ℕ) → Each FineSent es → HasReferences es m → RowsRead m i o (map rowOfSent es)

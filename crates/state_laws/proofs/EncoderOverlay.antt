@@ -29,8 +29,8 @@ pub front-reference : (f : Front) (e : Sent) (m : List ℕ) → HoldsFront f m �
 unfolding referenceOver
 front-reference f e m H =
     let at : ℕ = referencePlace (e .index) in
-    let plain : List ℕ = numberBytes 2 (e .plain) in
-    holds-beyond f (overlay m at plain) (at + 38) (numberBytes 2 (e .trailer)) (omega arith) (holds-beyond f m at plain (omega arith) H)
+    let nontrailer : List ℕ = numberBytes 2 (e .nontrailer) in
+    holds-beyond f (overlay m at nontrailer) (at + 38) (numberBytes 2 (e .trailer)) (omega arith) (holds-beyond f m at nontrailer (omega arith) H)
 
 pub front-references : (f : Front) (es : List Sent) (m : List ℕ) → HoldsFront f m → HoldsFront f (referencesOver es m)
 unfolding referencesOver

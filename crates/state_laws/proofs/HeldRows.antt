@@ -124,7 +124,7 @@ module _ (D : Decoder) (fits : FitsDecoder D) where
           let h = some-found (look heldIndex (d .index) (D .entries)) (f .held) in
           let e : h .0 .index ≡ d .index = look-index heldIndex (d .index) (D .entries) (h .0) (h .1) in
           let i = each-found FineHeld heldIndex (D .entries) fine-entries (d .index) (h .0) (h .1) .index .1 in
-          record { index = omega arith; plain = f .plain; trailer = f .trailer }
+          record { index = omega arith; nontrailer = f .nontrailer; trailer = f .trailer }
 
   pub fits-front : FineFront (decoderFront D)
   unfolding decoderFront

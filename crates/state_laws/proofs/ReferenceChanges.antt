@@ -91,12 +91,12 @@ pub cut-entered : (i : ℕ) (es : List Sent) (m : List ℕ) → HasReferences es
 cut-entered i es m has = references-same (cut sentIndex i es) m (cut-stands i es m has)
 
 -- entries changed, but for index and horizons
-module _ (f : Sent → Sent) (index : (e : Sent) → f e .index ≡ e .index) (plain : (e : Sent) → f e .plain ≡ e .plain)
+module _ (f : Sent → Sent) (index : (e : Sent) → f e .index ≡ e .index) (nontrailer : (e : Sent) → f e .nontrailer ≡ e .nontrailer)
     (trailer : (e : Sent) → f e .trailer ≡ e .trailer) where
   pub kept-stands : (es : List Sent) (m : List ℕ) → HasReferences es m → HasReferences (map f es) m
   kept-stands es m =
       each-map (λ e. HasReference e m) (λ e. HasReference e m) f
-      (λ e has. record { plain = rw (index e, plain e) (has .plain); trailer = rw (index e, trailer e) (has .trailer) }) es
+      (λ e has. record { nontrailer = rw (index e, nontrailer e) (has .nontrailer); trailer = rw (index e, trailer e) (has .trailer) }) es
 
   pub kept-entered : (es : List Sent) (m : List ℕ) → HasReferences es m → referencesOver (map f es) m ≡ m
   kept-entered es m has = references-same (map f es) m (kept-stands es m has)

@@ -21,7 +21,7 @@ use Rattle.state_laws.proofs.Each.{Each, each-weak}
 
 -- the two horizons of an entry stand at its index
 pub record HasReference (e : Sent) (m : List ℕ) : Type 0 where
-  pub plain : Has m (referencePlace (e .index)) (numberBytes 2 (e .plain))
+  pub nontrailer : Has m (referencePlace (e .index)) (numberBytes 2 (e .nontrailer))
   pub trailer : Has m (referencePlace (e .index) + 38) (numberBytes 2 (e .trailer))
 
 abbrev pub HasReferences : List Sent → List ℕ → Type 0
@@ -34,21 +34,21 @@ module _ (e : Sent) (m : List ℕ) where
   unfolding referenceOver
   length-referenceOver =
       let at = referencePlace (e .index) in
-      length-overlay (overlay m at (numberBytes 2 (e .plain))) (at + 38) (numberBytes 2 (e .trailer)) ∙ length-overlay m at (numberBytes 2 (e .plain))
+      length-overlay (overlay m at (numberBytes 2 (e .nontrailer))) (at + 38) (numberBytes 2 (e .trailer)) ∙ length-overlay m at (numberBytes 2 (e .nontrailer))
 
   -- it stands there once it is entered
   pub reference-entered : 16960 ≤ length m → FineSent e → HasReference e (referenceOver e m)
   unfolding referenceOver numberBytes
   reference-entered long fine =
       let at : ℕ = referencePlace (e .index) in
-      let plain : List ℕ = numberBytes 2 (e .plain) in
+      let nontrailer : List ℕ = numberBytes 2 (e .nontrailer) in
       let trailer : List ℕ = numberBytes 2 (e .trailer) in
-      let same : length (overlay m at plain) ≡ length m = length-overlay m at plain in
+      let same : length (overlay m at nontrailer) ≡ length m = length-overlay m at nontrailer in
       let low = fine .low in
       let high = fine .high in
       record {
-        plain = has-below (overlay m at plain) at plain (at + 38) trailer (omega arith) (has-overlay m at plain (omega arith));
-        trailer = has-overlay (overlay m at plain) (at + 38) trailer (omega arith);
+        nontrailer = has-below (overlay m at nontrailer) at nontrailer (at + 38) trailer (omega arith) (has-overlay m at nontrailer (omega arith));
+        trailer = has-overlay (overlay m at nontrailer) (at + 38) trailer (omega arith);
       }
 
   -- entering what stands there changes nothing
@@ -56,7 +56,7 @@ module _ (e : Sent) (m : List ℕ) where
   unfolding referenceOver
   reference-same has =
       let at : ℕ = referencePlace (e .index) in
-      ap (λ (l : List ℕ). overlay l (at + 38) (numberBytes 2 (e .trailer))) (overlay-same m at (numberBytes 2 (e .plain)) (has .plain))
+      ap (λ (l : List ℕ). overlay l (at + 38) (numberBytes 2 (e .trailer))) (overlay-same m at (numberBytes 2 (e .nontrailer)) (has .nontrailer))
       ∙ overlay-same m (at + 38) (numberBytes 2 (e .trailer)) (has .trailer)
 
   -- it changes nothing before the references and nothing after them
@@ -64,33 +64,33 @@ module _ (e : Sent) (m : List ℕ) where
   unfolding referenceOver
   reference-before k h =
       let at : ℕ = referencePlace (e .index) in
-      overlay-before (overlay m at (numberBytes 2 (e .plain))) (at + 38) (numberBytes 2 (e .trailer)) k (omega arith)
-      ∙ overlay-before m at (numberBytes 2 (e .plain)) k (omega arith)
+      overlay-before (overlay m at (numberBytes 2 (e .nontrailer))) (at + 38) (numberBytes 2 (e .trailer)) k (omega arith)
+      ∙ overlay-before m at (numberBytes 2 (e .nontrailer)) k (omega arith)
 
   pub reference-after : FineSent e → (k : ℕ) → 16960 ≤ k → getD (referenceOver e m) k 0 ≡ getD m k 0
   unfolding referenceOver numberBytes
   reference-after fine k h =
       let at : ℕ = referencePlace (e .index) in
       let high = fine .high in
-      overlay-after (overlay m at (numberBytes 2 (e .plain))) (at + 38) (numberBytes 2 (e .trailer)) k (omega arith)
-      ∙ overlay-after m at (numberBytes 2 (e .plain)) k (omega arith)
+      overlay-after (overlay m at (numberBytes 2 (e .nontrailer))) (at + 38) (numberBytes 2 (e .trailer)) k (omega arith)
+      ∙ overlay-after m at (numberBytes 2 (e .nontrailer)) k (omega arith)
 
   -- a store before the references may come first
   pub reference-comm : (j : ℕ) (ys : List ℕ) → j + length ys ≤ 7232 → referenceOver e (overlay m j ys) ≡ overlay (referenceOver e m) j ys
   unfolding referenceOver
   reference-comm j ys h =
       let at : ℕ = referencePlace (e .index) in
-      let plain : List ℕ = numberBytes 2 (e .plain) in
+      let nontrailer : List ℕ = numberBytes 2 (e .nontrailer) in
       let trailer : List ℕ = numberBytes 2 (e .trailer) in
-      ap (λ (l : List ℕ). overlay l (at + 38) trailer) (overlay-comm m j ys at plain (omega arith))
-      ∙ overlay-comm (overlay m at plain) j ys (at + 38) trailer (omega arith)
+      ap (λ (l : List ℕ). overlay l (at + 38) trailer) (overlay-comm m j ys at nontrailer (omega arith))
+      ∙ overlay-comm (overlay m at nontrailer) j ys (at + 38) trailer (omega arith)
 
   -- and keeps one that stands there
   pub reference-beyond : (j : ℕ) (ys : List ℕ) → j + length ys ≤ 7232 → HasReference e m → HasReference e (overlay m j ys)
   reference-beyond j ys h has =
       let at : ℕ = referencePlace (e .index) in
       record {
-        plain = has-above m at (numberBytes 2 (e .plain)) j ys (omega arith) (has .plain);
+        nontrailer = has-above m at (numberBytes 2 (e .nontrailer)) j ys (omega arith) (has .nontrailer);
         trailer = has-above m (at + 38) (numberBytes 2 (e .trailer)) j ys (omega arith) (has .trailer);
       }
 
@@ -111,21 +111,21 @@ unfolding referenceOver
 reference-beside e d m fine other apart has =
     let at : ℕ = referencePlace (e .index) in
     let j : ℕ = referencePlace (d .index) in
-    let once : List ℕ = overlay m j (numberBytes 2 (d .plain)) in
+    let once : List ℕ = overlay m j (numberBytes 2 (d .nontrailer)) in
     let p = fine .low in
     let q = other .low in
     split (e .index) (d .index)
     (λ h. record {
-      plain = pair-below once at (j + 38) (e .plain) (d .trailer) (omega arith) (pair-below m at j (e .plain) (d .plain) (omega arith) (has .plain));
+      nontrailer = pair-below once at (j + 38) (e .nontrailer) (d .trailer) (omega arith) (pair-below m at j (e .nontrailer) (d .nontrailer) (omega arith) (has .nontrailer));
       trailer =
           pair-below once (at + 38) (j + 38) (e .trailer) (d .trailer) (omega arith)
-          (pair-below m (at + 38) j (e .trailer) (d .plain) (omega arith) (has .trailer));
+          (pair-below m (at + 38) j (e .trailer) (d .nontrailer) (omega arith) (has .trailer));
     })
     (λ h. record {
-      plain = pair-above once at (j + 38) (e .plain) (d .trailer) (omega arith) (pair-above m at j (e .plain) (d .plain) (omega arith) (has .plain));
+      nontrailer = pair-above once at (j + 38) (e .nontrailer) (d .trailer) (omega arith) (pair-above m at j (e .nontrailer) (d .nontrailer) (omega arith) (has .nontrailer));
       trailer =
           pair-above once (at + 38) (j + 38) (e .trailer) (d .trailer) (omega arith)
-          (pair-above m (at + 38) j (e .trailer) (d .plain) (omega arith) (has .trailer));
+          (pair-above m (at + 38) j (e .trailer) (d .nontrailer) (omega arith) (has .trailer));
     })
 
 -- ---- all references

@@ -14,7 +14,7 @@ use Rattle.model.specs.Table.{Ascending, total, size}
 use Rattle.model.specs.Encoder.{Sent, sentIndex, sentSize, FineSent}
 use Rattle.state.specs.Layout.{referencePlace}
 use Rattle.state.specs.Rows.{Row, rowIndex, rowsSize}
-use Rattle.state.specs.EncoderState.{plainAt, trailerAt, sentOfRow, rowOfSent}
+use Rattle.state.specs.EncoderState.{nontrailerAt, trailerAt, sentOfRow, rowOfSent}
 use Rattle.state_laws.proofs.FrontHolds.{FineRow, FineRows}
 use Rattle.state_laws.proofs.Each.{Each, each-map}
 use Rattle.state_laws.proofs.References.{HasReference, HasReferences}
@@ -22,8 +22,8 @@ use Rattle.state_laws.proofs.References.{HasReference, HasReferences}
 -- ---- from entries to rows and back
 
 module _ (m : List ℕ) (e : Sent) (fine : FineSent e) (has : HasReference e m) where
-  pub plain-back : plainAt m (e .index) ≡ e .plain
-  plain-back = let h = fine .plain in number-back 2 m (referencePlace (e .index)) (e .plain) (omega arith) (has .plain)
+  pub nontrailer-back : nontrailerAt m (e .index) ≡ e .nontrailer
+  nontrailer-back = let h = fine .nontrailer in number-back 2 m (referencePlace (e .index)) (e .nontrailer) (omega arith) (has .nontrailer)
 
   pub trailer-back : trailerAt m (e .index) ≡ e .trailer
   trailer-back = let h = fine .trailer in number-back 2 m (referencePlace (e .index) + 38) (e .trailer) (omega arith) (has .trailer)
@@ -31,7 +31,7 @@ module _ (m : List ℕ) (e : Sent) (fine : FineSent e) (has : HasReference e m) 
   pub sent-back : sentOfRow m (rowOfSent e) ≡ e
   unfolding sentOfRow rowOfSent
   sent-back =
-      let p = plain-back in
+      let p = nontrailer-back in
       let t = trailer-back in
       let d : eqb (pick (e .deleted) 1 0) 1 ≡ e .deleted = pick-both (λ (n : ℕ). eqb n 1 ≡ e .deleted) (e .deleted) 1 0 (λ z. cc) (λ z. cc) in
       rw (p, t, d)
@@ -70,7 +70,7 @@ pub record SentRow (m : List ℕ) (r : Row) : Type 0 where
   pub name : length (r .entry .name) ≤ 255
   pub value : length (r .entry .value) ≤ 2047
   pub status : r .status ≤ 1
-  pub plain : plainAt m (r .index) ≤ 4096
+  pub nontrailer : nontrailerAt m (r .index) ≤ 4096
   pub trailer : trailerAt m (r .index) ≤ 4096
 
 module _ (m : List ℕ) (r : Row) (fine : SentRow m r) where
@@ -88,11 +88,11 @@ module _ (m : List ℕ) (r : Row) (fine : SentRow m r) where
   row-stands small long =
       let h = fine .high in
       let at : ℕ = referencePlace (r .index) in
-      record { plain = bytes-back 2 m at small (omega arith); trailer = bytes-back 2 m (at + 38) small (omega arith) }
+      record { nontrailer = bytes-back 2 m at small (omega arith); trailer = bytes-back 2 m (at + 38) small (omega arith) }
 
   pub row-sent : FineSent (sentOfRow m r)
   unfolding sentOfRow
-  row-sent = record { low = fine .low; high = fine .high; name = fine .name; value = fine .value; plain = fine .plain; trailer = fine .trailer }
+  row-sent = record { low = fine .low; high = fine .high; name = fine .name; value = fine .value; nontrailer = fine .nontrailer; trailer = fine .trailer }
 
 module _ (m : List ℕ) where
   pub rows-back : (rs : List Row) → Each (SentRow m) rs → map rowOfSent (map (sentOfRow m) rs) ≡ rs

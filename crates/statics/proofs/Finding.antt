@@ -10,10 +10,10 @@ use Rattle.memory.proofs.Order.{split, either, pick-true, pick-false, not-both}
 use Rattle.memory.proofs.Sameness.{same-eq, eq-same}
 use Rattle.integers.specs.declared.number.TableIndex.{TableIndex}
 use Rattle.statics.specs.Table.{staticName, staticValue}
-use Rattle.statics.specs.Search.{hasName, hasBoth, lowest, lowestName, lowestBoth, findName, findBoth}
+use Rattle.statics.specs.Search.{hasName, hasBoth, lowestStatic, lowestName, lowestBoth, findName, findBoth}
 use Rattle.statics.specs.declared.search.StaticFound.the-variants.{At, Nothing}
 
--- i is the lowest number from `from` on, and below `end`, of which P holds
+-- i is the lowestStatic number from `from` on, and below `end`, of which P holds
 pub record Lowest (P : ℕ → Type 0) (from end i : ℕ) : Type 0 where
   pub low : from ≤ i
   pub high : i < end
@@ -33,29 +33,29 @@ HasBoth name value i = (staticName i ≡ name) × (staticValue i ≡ value)
 -- ---- for any test
 
 module _ (f : ℕ → Bool) where
-  pub lowest-here : (n i : ℕ) → f i ≡ true → lowest f (suc n) i ≡ At (record { value = i })
-  unfolding lowest
-  lowest-here n i e = pick-true (f i) (At (record { value = i })) (lowest f n (i + 1)) e
+  pub lowest-here : (n i : ℕ) → f i ≡ true → lowestStatic f (suc n) i ≡ At (record { value = i })
+  unfolding lowestStatic
+  lowest-here n i e = pick-true (f i) (At (record { value = i })) (lowestStatic f n (i + 1)) e
 
-  pub lowest-next : (n i : ℕ) → f i ≡ false → lowest f (suc n) i ≡ lowest f n (i + 1)
-  unfolding lowest
-  lowest-next n i e = pick-false (f i) (At (record { value = i })) (lowest f n (i + 1)) e
+  pub lowest-next : (n i : ℕ) → f i ≡ false → lowestStatic f (suc n) i ≡ lowestStatic f n (i + 1)
+  unfolding lowestStatic
+  lowest-next n i e = pick-false (f i) (At (record { value = i })) (lowestStatic f n (i + 1)) e
 
   -- the turns of a search up to the last entry
-  pub turn-here : (i : ℕ) → i ≤ 61 → f i ≡ true → lowest f (62 - i) i ≡ At (record { value = i })
-  turn-here i h e = let d : 62 - i ≡ suc (61 - i) = omega arith in ap (λ (n : ℕ). lowest f n i) d ∙ lowest-here (61 - i) i e
+  pub turn-here : (i : ℕ) → i ≤ 61 → f i ≡ true → lowestStatic f (62 - i) i ≡ At (record { value = i })
+  turn-here i h e = let d : 62 - i ≡ suc (61 - i) = omega arith in ap (λ (n : ℕ). lowestStatic f n i) d ∙ lowest-here (61 - i) i e
 
-  pub turn-next : (i : ℕ) → i ≤ 61 → f i ≡ false → lowest f (62 - i) i ≡ lowest f (62 - (i + 1)) (i + 1)
+  pub turn-next : (i : ℕ) → i ≤ 61 → f i ≡ false → lowestStatic f (62 - i) i ≡ lowestStatic f (62 - (i + 1)) (i + 1)
   turn-next i h e =
       let d : 62 - i ≡ suc (62 - (i + 1)) = omega arith in
-      ap (λ (n : ℕ). lowest f n i) d ∙ lowest-next (62 - (i + 1)) i e
+      ap (λ (n : ℕ). lowestStatic f n i) d ∙ lowest-next (62 - (i + 1)) i e
 
-  pub turn-done : (i : ℕ) → 61 < i → lowest f (62 - i) i ≡ Nothing
-  unfolding lowest
-  turn-done i h = let d : 62 - i ≡ 0 = omega arith in ap (λ (n : ℕ). lowest f n i) d
+  pub turn-done : (i : ℕ) → 61 < i → lowestStatic f (62 - i) i ≡ Nothing
+  unfolding lowestStatic
+  turn-done i h = let d : 62 - i ≡ 0 = omega arith in ap (λ (n : ℕ). lowestStatic f n i) d
 
-  pub found : (n i : ℕ) (j : TableIndex) → lowest f n i ≡ At j → Lowest (λ k. f k ≡ true) i (i + n) (j .value)
-  unfolding lowest
+  pub found : (n i : ℕ) (j : TableIndex) → lowestStatic f n i ≡ At j → Lowest (λ k. f k ≡ true) i (i + n) (j .value)
+  unfolding lowestStatic
   found zero i j e = let z : _≡_ {A = ℕ} 0 1 = cc in absurd (omega arith)
   found (suc n) i j e =
       either (f i)
@@ -77,8 +77,8 @@ module _ (f : ℕ → Bool) where
             first = λ k a b c. split i k (λ h. l .first k (omega arith) b c) (λ h. let d : i ≡ k = omega arith in not-both (f k) c (ap f (sym d) ∙ t));
           }
 
-  pub nothing : (n i : ℕ) → lowest f n i ≡ Nothing → None (λ k. f k ≡ true) i (i + n)
-  unfolding lowest
+  pub nothing : (n i : ℕ) → lowestStatic f n i ≡ Nothing → None (λ k. f k ≡ true) i (i + n)
+  unfolding lowestStatic
   nothing zero i e k a b t = omega arith
   nothing (suc n) i e k a b t =
       either (f i)
@@ -87,13 +87,13 @@ module _ (f : ℕ → Bool) where
       (λ l. let d : i ≡ k = omega arith in not-both (f k) t (ap f (sym d) ∙ h)))
 
   -- m entries of which the test fails may be passed over
-  pub skip : (m n i : ℕ) → None (λ k. f k ≡ true) i (i + m) → lowest f (m + n) i ≡ lowest f n (i + m)
+  pub skip : (m n i : ℕ) → None (λ k. f k ≡ true) i (i + m) → lowestStatic f (m + n) i ≡ lowestStatic f n (i + m)
   skip zero n i g = rw (zero-add n, add-zero i) refl
   skip (suc m) n i g =
       let d : i + 1 + m ≡ i + suc m = omega arith in
       rw (suc-add m n)
       (lowest-next (m + n) i (either (f i) (λ t. absurd (g i (omega arith) (omega arith) t)) (λ t. t))
-      ∙ skip m n (i + 1) (λ k a b. g k (omega arith) (omega arith)) ∙ ap (lowest f n) d)
+      ∙ skip m n (i + 1) (λ k a b. g k (omega arith) (omega arith)) ∙ ap (lowestStatic f n) d)
 
 -- what implies a thing carries over
 lowest-as : {P Q : ℕ → Type 0} {from end i : ℕ} → ((k : ℕ) → P k → Q k) → ((k : ℕ) → Q k → P k)
@@ -133,7 +133,7 @@ module _ (name : List ℕ) where
   unfolding lowestName
   name-nothing n i e k a b h = nothing (λ x. hasName x name) n i e k a b (name-has name k h)
 
-  -- the entry found for a name is the lowest with its own name, which is the one sought
+  -- the entry found for a name is the lowestStatic with its own name, which is the one sought
   pub name-first : (j : TableIndex) → findName name ≡ At j → (1 ≤ j .value) × (j .value ≤ 61) × (findName (staticName (j .value)) ≡ At j)
   name-first j e = let l = name-found 61 1 j e in (l .low, omega (arith, l .high), ap findName (l .holds) ∙ e)
 
@@ -155,7 +155,7 @@ module _ (name value : List ℕ) where
   both-skip m n g = skip (λ k. hasBoth k name value) m n 1 (λ k a b t. g k a b (has-both name value k t .0))
 
   pub start-nothing : findName name ≡ Nothing → findBoth name value ≡ Nothing
-  unfolding lowestBoth lowest
+  unfolding lowestBoth lowestStatic
   start-nothing e = both-skip 61 0 (name-nothing name 61 1 e)
 
   pub start-at : (j : TableIndex) → findName name ≡ At j → lowestBoth (62 - j .value) (j .value) name value ≡ findBoth name value

@@ -1,4 +1,4 @@
--- The hash of a name leaves at most the lowest entry with that name: a computed test over the entries, and what follows from it for every name.
+-- The hash of a name leaves at most the lowestStatic entry with that name: a computed test over the entries, and what follows from it for every name.
 use mathlib.Core.Path.{_≡_, refl, sym, ap, subst, _∙_}
 use mathlib.Core.Bool.{Bool, true, false}
 use Prim.Native.Nat.{ℕ, _+_, _*_, _-_, _%_, _≤_}
@@ -11,7 +11,7 @@ use Rattle.memory.specs.Compare.{same}
 use Rattle.memory.proofs.Order.{not-both}
 use Rattle.integers.specs.declared.number.TableIndex.{TableIndex}
 use Rattle.statics.specs.Table.{Entry, entries, entryAt, staticName}
-use Rattle.statics.specs.Search.{hasName, lowest, lowestName, findName}
+use Rattle.statics.specs.Search.{hasName, lowestStatic, lowestName, findName}
 use Rattle.statics.specs.Hash.{hashOf, indexOf, hashedOf}
 use Rattle.statics.specs.declared.search.StaticFound.{StaticFound}
 use Rattle.statics.specs.declared.search.StaticFound.the-variants.{At, Nothing}
@@ -29,7 +29,7 @@ abbrev hashed : Entry → Bool
 hashed e = isAt (findName (e .name)) (hashedOf (hashOf (e .name)))
 
 hashed-all : T (every hashed entries)
-unfolding entries entryAt lowestName lowest hasName same hashOf hashedOf
+unfolding entries entryAt lowestName lowestStatic hasName same hashOf hashedOf
 hashed-all = tt
 
 -- ---- for every name
@@ -71,15 +71,15 @@ module _ (name : List ℕ) where
         go Nothing e = absurd (name-nothing name 61 1 e i lo (omega arith) (has-name name i t))
 
 pub hash-empty : (name : List ℕ) → length name ≡ 0 → Nothing ≡ findName name
-unfolding entries entryAt lowestName lowest hasName same
+unfolding entries entryAt lowestName lowestStatic hasName same
 hash-empty [] e = refl
 hash-empty (x ∷ xs) e = absurd (omega arith)
 
 pub hash-within : (hash : ℕ) → (1 ≤ hashedOf hash) × (hashedOf hash ≤ 61)
 unfolding hashedOf
-hash-within hash = go (lowest (λ k. eqb (hashOf (staticName k)) hash) 61 1) refl
+hash-within hash = go (lowestStatic (λ k. eqb (hashOf (staticName k)) hash) 61 1) refl
   where
-    go : (o : StaticFound) → lowest (λ k. eqb (hashOf (staticName k)) hash) 61 1 ≡ o → (1 ≤ indexOf o) × (indexOf o ≤ 61)
+    go : (o : StaticFound) → lowestStatic (λ k. eqb (hashOf (staticName k)) hash) 61 1 ≡ o → (1 ≤ indexOf o) × (indexOf o ≤ 61)
     go (At j) e = let l = found (λ k. eqb (hashOf (staticName k)) hash) 61 1 j e in (l .low, omega (arith, l .high))
     go Nothing e = (omega arith, omega arith)
 
@@ -96,9 +96,9 @@ entry-among k lo hi = every-in (λ (e : Entry). among hashes (hashOf (e .name)))
 
 pub hash-rest : (hash : ℕ) → NoneIn hashes hash → 1 ≡ hashedOf hash
 unfolding hashedOf
-hash-rest hash n = go (lowest (λ k. eqb (hashOf (staticName k)) hash) 61 1) refl
+hash-rest hash n = go (lowestStatic (λ k. eqb (hashOf (staticName k)) hash) 61 1) refl
   where
-    go : (o : StaticFound) → lowest (λ k. eqb (hashOf (staticName k)) hash) 61 1 ≡ o → 1 ≡ indexOf o
+    go : (o : StaticFound) → lowestStatic (λ k. eqb (hashOf (staticName k)) hash) 61 1 ≡ o → 1 ≡ indexOf o
     go (At j) e =
         let l = found (λ k. eqb (hashOf (staticName k)) hash) 61 1 j e in
         let same = eqb-true (hashOf (staticName (j .value))) hash (l .holds) in

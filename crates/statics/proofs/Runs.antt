@@ -12,7 +12,7 @@ use Rattle.memory.specs.Compare.{same}
 use Rattle.memory.proofs.Order.{pick-true, not-both}
 use Rattle.integers.specs.declared.number.TableIndex.{TableIndex}
 use Rattle.statics.specs.Table.{entries, entryAt, staticName, staticValue}
-use Rattle.statics.specs.Search.{hasName, hasBoth, lowest, lowestName, lowestBoth, findName, findBoth}
+use Rattle.statics.specs.Search.{hasName, hasBoth, lowestStatic, lowestName, lowestBoth, findName, findBoth}
 use Rattle.statics.specs.Hash.{lastOf, hasValue}
 use Rattle.statics.specs.declared.search.StaticFound.{StaticFound}
 use Rattle.statics.specs.declared.search.StaticFound.the-variants.{At, Nothing}
@@ -36,12 +36,12 @@ agree-eq true false t = absurd t
 agree-eq false true t = absurd t
 agree-eq false false t = refl
 
--- from the lowest entry i on, those up to the last of its run have its name, and no other
+-- from the lowestStatic entry i on, those up to the last of its run have its name, and no other
 abbrev runs : ℕ → Bool
 runs i = pick (isAt (findName (staticName i)) i) (both (leb (lastOf i) 61) (below (λ d. agree (hasName (i + d) (staticName i)) (leb (i + d) (lastOf i))) (62 - i))) true
 
 runs-all : T (below runs 62)
-unfolding entries entryAt lowestName lowest hasName same lastOf
+unfolding entries entryAt lowestName lowestStatic hasName same lastOf
 runs-all = tt
 
 module _ (first : TableIndex) (lo : 1 ≤ first .value) (hi : first .value ≤ 61) (here : findName (staticName (first .value)) ≡ At first) where
@@ -73,7 +73,7 @@ module _ (first : TableIndex) (lo : 1 ≤ first .value) (hi : first .value ≤ 6
 
     -- behind the run no entry has the name
     pub run-over : (i : ℕ) → a ≤ i → lastOf a < i → lowestBoth (62 - i) i name value ≡ Nothing
-    unfolding lowestBoth lowest
+    unfolding lowestBoth lowestStatic
     run-over i low high =
         rw (add-zero (62 - i)) at
         (skip (λ k. hasBoth k name value) (62 - i) 0 i

@@ -7,7 +7,7 @@ use lib.Dec.{eqb, ltb}
 use Rattle.memory.specs.Choice.{pick}
 use Rattle.memory.specs.Compare.{same}
 use Rattle.statics.specs.Table.{staticName, staticValue}
-use Rattle.statics.specs.Search.{lowest}
+use Rattle.statics.specs.Search.{lowestStatic}
 use Rattle.statics.specs.declared.search.StaticFound.{StaticFound}
 use Rattle.statics.specs.declared.search.StaticFound.the-variants.{At, Nothing}
 
@@ -19,11 +19,11 @@ abbrev pub indexOf : StaticFound → ℕ
 indexOf (At j) = j .value
 indexOf Nothing = 1
 
--- the lowest entry whose name has this hash, or the first
+-- the lowestStatic entry whose name has this hash, or the first
 unfoldable pub hashedOf : ℕ → ℕ
-hashedOf hash = indexOf (lowest (λ k. eqb (hashOf (staticName k)) hash) 61 1)
+hashedOf hash = indexOf (lowestStatic (λ k. eqb (hashOf (staticName k)) hash) 61 1)
 
--- the last entry with the name of the entry i, where i is the lowest with it
+-- the last entry with the name of the entry i, where i is the lowestStatic with it
 unfoldable pub lastOf : ℕ → ℕ
 lastOf i = pick (eqb i 2) 3 (pick (eqb i 4) 5 (pick (eqb i 6) 7 (pick (eqb i 8) 14 i)))
 

@@ -11,7 +11,7 @@ use Rattle.marks.proofs.Words.{words-length}
 use Rattle.model.specs.Table.{total}
 use Rattle.state.specs.Rows.{rowsSize}
 use Rattle.state.specs.Front.{headBytes, marksBytes}
-use Rattle.rows.proofs.Stores.{after}
+use Rattle.table_rows.proofs.Stores.{after}
 use Rattle.table.specs.Changes.{freshFront, started}
 
 pub head-stored : (m a b : List ℕ) (role limit : ℕ) → a ≡ overlay (set (set m 0 role) 1 2) 2 (numberBytes 2 limit) → b ≡ overlay a 4 (replicate 60 0)

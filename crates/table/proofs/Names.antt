@@ -12,9 +12,9 @@ use Rattle.memory.proofs.Numbers.{length-numberBytes}
 use Rattle.state.specs.Layout.{rowPlace, textPlace, heldOf, countOf, offsetAt, nameLengthAt}
 use Rattle.state.specs.Rows.{rowLine, nameAt}
 use Rattle.table.specs.Changes.{textOpened, rowOpened, openedAt, opened, Opening, NamedHere}
-use Rattle.rows.specs.Rows.{laid, recorded, startOf}
-use Rattle.rows.proofs.Stores.{length-row}
-use Rattle.rows.proofs.Laying.{length-laid, laid-above}
+use Rattle.table_rows.specs.Rows.{laid, recorded, startOf}
+use Rattle.table_rows.proofs.Stores.{length-row}
+use Rattle.table_rows.proofs.Laying.{length-laid, laid-above}
 
 -- ---- lengths
 

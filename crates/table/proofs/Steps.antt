@@ -10,8 +10,8 @@ use Rattle.memory.proofs.Numbers.{number-below}
 use Rattle.state.specs.Layout.{rowPlace, textPlace, heldOf, countOf, offsetAt, nameLengthAt, valueLengthAt}
 use Rattle.state.specs.Rows.{rowLine}
 use Rattle.table.specs.Changes.{textOpened, rowOpened, openedAt, opened, inserted, removedAt, removed}
-use Rattle.rows.specs.Rows.{laid, recorded, startOf}
-use Rattle.rows.proofs.Laying.{laid-below}
+use Rattle.table_rows.specs.Rows.{laid, recorded, startOf}
+use Rattle.table_rows.proofs.Laying.{laid-below}
 
 -- ---- a row put in: text and rows move up, the offsets are laid, and the record is brought up to date
 

@@ -4,7 +4,7 @@ use mathlib.Core.List.{List, []}
 use lib.ListN.{length}
 use Rattle.memory.specs.Bytes.{overlay, moved}
 use Rattle.state.specs.Layout.{rowPlace, textPlace, heldOf, countOf, offsetAt, nameLengthAt, valueLengthAt}
-use Rattle.rows.specs.Rows.{laid, recorded, startOf}
+use Rattle.table_rows.specs.Rows.{laid, recorded, startOf}
 use Rattle.model.specs.Parts.{noMarks}
 use Rattle.state.specs.Rows.{rowLine}
 use Rattle.state.specs.Front.{Front, headBytes, marksBytes}

@@ -2,24 +2,24 @@
 ghost use mathlib.Core.Path.{_≡_};
 ghost use Prim.Native.Nat.{ℕ, _+_, _≤_, _<_};
 ghost use lib.ListN.{length};
-ghost use Rattle.wire.specs.Text.{InText, stringLength, stringBytes};
+ghost use Rattle.wire.specs.Text.{InString, stringLength, stringBytes};
 ghost use Rattle.state.specs.Layout.{nameLengthAt};
 ghost use Rattle.state.specs.Rows.{rowLine, nameAt};
-ghost use Rattle.rows.specs.Rows.{startOf};
+ghost use Rattle.table_rows.specs.Rows.{startOf};
 ghost use Rattle.table.specs.Changes.{Opening, opened, textOpened, rowOpened, inserted, NamedHere};
 use integers::number::TableIndex;
 use memory::copy::copy;
 use memory::copy::move_down;
 use memory::copy::move_up;
 use memory::number::u16_at;
-use rows::lay;
-use rows::put_row;
-use rows::record_insert;
-use rows::text_start;
 use state::layout::COUNT;
 use state::layout::HELD;
 use state::layout::TEXT;
 use state::layout::row_place;
+use table_rows::lay;
+use table_rows::put_row;
+use table_rows::record_insert;
+use table_rows::text_start;
 use wire::text::StringPlace;
 
 // Moves the text behind `offset` up by `text` bytes; `left` bytes stand there.
@@ -95,7 +95,7 @@ pub fn insert_named(
     s: &[u8],
     value: StringPlace,
 )
-    requires { ⌜ InText (now s) value ⌝ }
+    requires { ⌜ InString (now s) value ⌝ }
     requires { ⌜ Opening (now m) place (length (now name)) (stringLength (now s) value) ⌝ }
     ensures { λ _. ⌜ now (m .exit) ≡ inserted (now (m .entry)) place (index .value) (now (name .entry)) (stringBytes (now (s .entry)) value) ⌝ }
 {
@@ -113,7 +113,7 @@ pub fn insert_strings(
     name: StringPlace,
     value: StringPlace,
 )
-    requires { ⌜ (InText (now s) name) × (InText (now s) value) ⌝ }
+    requires { ⌜ (InString (now s) name) × (InString (now s) value) ⌝ }
     requires { ⌜ Opening (now m) place (stringLength (now s) name) (stringLength (now s) value) ⌝ }
     ensures { λ _. ⌜ now (m .exit) ≡ inserted (now (m .entry)) place (index .value) (stringBytes (now (s .entry)) name) (stringBytes (now (s .entry)) value) ⌝ }
 {
@@ -131,7 +131,7 @@ pub fn insert_like(
     s: &[u8],
     value: StringPlace,
 )
-    requires { ⌜ InText (now s) value ⌝ }
+    requires { ⌜ InString (now s) value ⌝ }
     requires { ⌜ NamedHere (now m) place named ⌝ }
     requires { ⌜ Opening (now m) place (nameLengthAt (now m) named) (stringLength (now s) value) ⌝ }
     ensures { λ _. ⌜ now (m .exit) ≡ inserted (now (m .entry)) place (index .value) (nameAt (now (m .entry)) named) (stringBytes (now (s .entry)) value) ⌝ }

@@ -3,13 +3,13 @@ ghost use mathlib.Core.Path.{_≡_};
 ghost use Rattle.table.specs.Changes.{Removing, removed};
 use memory::copy::move_down;
 use memory::number::u16_at;
-use rows::lay;
-use rows::record_removal;
-use rows::text_length;
 use state::layout::COUNT;
 use state::layout::HELD;
 use state::layout::TEXT;
 use state::layout::row_place;
+use table_rows::lay;
+use table_rows::record_removal;
+use table_rows::text_length;
 
 pub fn remove(m: &mut [u8], place: usize)
     requires { ⌜ Removing (now m) place ⌝ }

@@ -7,11 +7,11 @@ ghost use Rattle.state.specs.Front.{headBytes};
 ghost use Rattle.table.specs.Changes.{freshFront, started};
 use marks::mark::set_all;
 use memory::number::put_u16;
-use rows::put_zeros;
 use state::layout::FEBRUARY;
 use state::layout::LIMIT;
-use state::layout::PLAIN_MARKS;
+use state::layout::NONTRAILER_MARKS;
 use state::layout::TRAILER_MARKS;
+use table_rows::put_zeros;
 
 // The head of an empty table.
 fn put_head(m: &mut [u8], role: u8, limit: u16)
@@ -29,6 +29,6 @@ pub fn start(m: &mut [u8], role: u8, limit: u16)
     ensures { λ _. ⌜ now (m .exit) ≡ started (now (m .entry)) role limit ⌝ }
 {
     put_head(m, role, limit);
-    set_all(m, PLAIN_MARKS);
+    set_all(m, NONTRAILER_MARKS);
     set_all(m, TRAILER_MARKS);
 }

@@ -15,8 +15,8 @@ use Rattle.state.specs.DecoderState.{decoderOf}
 use Rattle.state.specs.Forms.{headOk, rowsOk, statusOk, formsDecoder}
 use Rattle.state_laws.proofs.RowsTest.{rows-within}
 use Rattle.state_laws.proofs.FrontForms.{head-told}
-use Rattle.changes.specs.DecoderChanges.{DecoderChanges}
-use Rattle.changes.proofs.DecoderClaim.{decoder-claim}
+use Rattle.table_laws.specs.DecoderChanges.{DecoderChanges}
+use Rattle.table_laws.proofs.DecoderClaim.{decoder-claim}
 
 abbrev pub Standing : List ℕ → Type 0
 Standing m = DecoderChanges m (decoderOf m)

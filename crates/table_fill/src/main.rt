@@ -4,8 +4,6 @@ ghost use Prim.Native.Nat.{ℕ, _≤_};
 ghost use lib.ListN.{length};
 use integers::number::TableIndex;
 use memory::number::u16_at;
-use search::find::Found;
-use search::find::find;
 use show::bytes;
 use show::number;
 use show::words;
@@ -19,6 +17,8 @@ use state::layout::row_place;
 use table::insert::insert;
 use table::remove::remove;
 use table::start::start;
+use table_search::find::Found;
+use table_search::find::find;
 
 fn main() {
     let mut memory = io::large_buffer();

@@ -2,8 +2,8 @@
 ghost use Prim.Native.Nat.{ℕ, _-_, _≤_};
 ghost use lib.ListN.{length};
 ghost use Rattle.text_io.specs.Lines.{Inside, Placed};
-use hex::line_end;
 use memory::copy::move_down;
+use tokens::hex::line_end;
 
 // What of the buffer is still to be read: the bytes from `from` up to `filled`.
 pub struct Reader {

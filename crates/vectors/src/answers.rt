@@ -129,9 +129,9 @@ fn instruction(s: &[u8], r: InstructionRead) {
             name(s, n);
             string(b" value ", s, value);
         }
-        InstructionPlace::Delete(index, plain, trailer) => {
+        InstructionPlace::Delete(index, nontrailer, trailer) => {
             number(b"delete ", index.value as u64);
-            list(b" horizon ", s, plain);
+            list(b" horizon ", s, nontrailer);
             list(b", horizon ", s, trailer);
         }
         InstructionPlace::Acknowledge(index) => number(b"acknowledge ", index.value as u64),

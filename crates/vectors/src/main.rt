@@ -4,9 +4,9 @@
 mod answers;
 
 use answers::answer;
-use hex::line_end;
-use hex::unhex;
 use show::words;
+use tokens::hex::line_end;
+use tokens::hex::unhex;
 
 fn main() {
     let mut input = io::large_buffer();

@@ -9,7 +9,7 @@ use lib.ListN.{length, getD, take, drop, length-drop, length-append}
 use lib.Seq.{length-take-le, take-append-le, drop-append-le}
 use Rattle.memory.proofs.Order.{split}
 use Rattle.integers.specs.Integer.{readInt}
-use Rattle.wire.specs.Text.{InText, readString, stringAfter, stringLength, stringBytes}
+use Rattle.wire.specs.Text.{InString, readString, stringAfter, stringLength, stringBytes}
 use Rattle.wire.specs.Name.{GoodName, Name, nameOf, readName}
 use Rattle.integers.specs.declared.integer.WireInt.{WireInt}
 use Rattle.integers.specs.declared.integer.IntRead.{IntRead}
@@ -29,7 +29,7 @@ pub record GoodString (s : List ℕ) (at limit : ℕ) (p : StringPlace) (next : 
   pub ends : p .start + p .size ≡ next
   pub inside : next ≤ length s
   pub near : next ≤ at + 5 + limit
-  pub text : InText s p
+  pub text : InString s p
   pub short : stringLength s p ≤ limit
 
 abbrev pub GoodStringRead : List ℕ → ℕ → ℕ → StringRead → Type 0
@@ -70,7 +70,7 @@ module _ (s : List ℕ) (at limit : ℕ) where
 
 -- the string at a place has as many bytes as its length says, and does not change when bytes are added behind
 module _ (s : List ℕ) (p : StringPlace) where
-  pub string-size : InText s p → length (stringBytes s p) ≡ stringLength s p
+  pub string-size : InString s p → length (stringBytes s p) ≡ stringLength s p
   unfolding stringBytes stringLength
   string-size h = length-take-le (p .size) (drop (p .start) s) (omega (arith, length-drop (p .start) s))
 
@@ -83,13 +83,13 @@ module _ (s : List ℕ) (p : StringPlace) where
   unfolding stringLength
   string-length-kept t = refl
 
-  pub string-bytes-kept : (t : List ℕ) → InText s p → stringBytes (s ++ t) p ≡ stringBytes s p
+  pub string-bytes-kept : (t : List ℕ) → InString s p → stringBytes (s ++ t) p ≡ stringBytes s p
   unfolding stringBytes
   string-bytes-kept t h =
       let d : drop (p .start) (s ++ t) ≡ drop (p .start) s ++ t = drop-append-le (p .start) s t (omega arith) in
       ap (take (p .size)) d ∙ take-append-le (p .size) (drop (p .start) s) t (omega (arith, length-drop (p .start) s))
 
-  pub in-text-kept : (t : List ℕ) → InText s p → InText (s ++ t) p
+  pub in-text-kept : (t : List ℕ) → InString s p → InString (s ++ t) p
   in-text-kept t h = omega (arith, length-append s t)
 
 abbrev pub GoodNameRead : List ℕ → ℕ → NameRead → Type 0

@@ -6,7 +6,7 @@ use lib.Dec.{eqb}
 use Rattle.memory.specs.Choice.{pick}
 use Rattle.integers.specs.Answers.{Answer, done, refusal}
 use Rattle.integers.specs.Integer.{largest, readInt, onInt, intWire}
-use Rattle.wire.specs.Text.{InText, stringLength, stringBytes, readString, onString, stringWire, nameLimit}
+use Rattle.wire.specs.Text.{InString, stringLength, stringBytes, readString, onString, stringWire, nameLimit}
 use Rattle.wire.specs.declared.name.NamePlace.{NamePlace}
 use Rattle.wire.specs.declared.name.NamePlace.the-variants.{Index, Text}
 use Rattle.wire.specs.declared.name.NameRead.{NameRead}
@@ -30,7 +30,7 @@ nameOf s (Text p) = literal (stringBytes s p)
 -- the place lies in s: an index is not 0, a string is one of a name's
 abbrev pub GoodName : List ℕ → NamePlace → Type 0
 GoodName s (Index i) = (0 < i .value) × (i .value ≤ largest)
-GoodName s (Text p) = InText s p × (stringLength s p ≤ nameLimit)
+GoodName s (Text p) = InString s p × (stringLength s p ≤ nameLimit)
 
 -- what is answered: the place after the name is told
 abbrev pub nameAnswer : NameRead → Answer

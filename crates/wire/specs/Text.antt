@@ -26,8 +26,8 @@ unfoldable pub stringBytes : List ℕ → StringPlace → List ℕ
 stringBytes s p = part s (p .start) (p .size)
 
 -- the place lies in s
-abbrev pub InText : List ℕ → StringPlace → Type 0
-InText s p = p .start + p .size ≤ length s
+abbrev pub InString : List ℕ → StringPlace → Type 0
+InString s p = p .start + p .size ≤ length s
 
 -- what is answered: where the string stands and the place after it are told
 abbrev pub stringAnswer : StringRead → Answer

@@ -3,7 +3,7 @@ ghost use mathlib.Core.Path.{_≡_};
 ghost use Prim.Native.Nat.{ℕ, _+_, _≤_};
 ghost use lib.ListN.{length};
 ghost use Rattle.memory.specs.Bytes.{overlay};
-ghost use Rattle.wire.specs.Text.{InText, stringAnswer, stringLength, stringBytes, readString, stringWire};
+ghost use Rattle.wire.specs.Text.{InString, stringAnswer, stringLength, stringBytes, readString, stringWire};
 ghost use Rattle.wire.specs.Short.{shortStringAt};
 use integers::answer::PACKED;
 use integers::answer::TOO_LONG;
@@ -57,7 +57,7 @@ impl StringPlace {
 
     // Copies the string's bytes into `out` from the place `at` on, and answers the place after them.
     pub fn copy(self, s: &[u8], out: &mut [u8], at: usize) -> usize
-        requires { ⌜ InText (now s) self ⌝ }
+        requires { ⌜ InString (now s) self ⌝ }
         requires { ⌜ at + stringLength (now s) self ≤ length (now out) ⌝ }
         ensures { λ r. ⌜ r ≡ at + stringLength (now (s .entry)) self ⌝ }
         ensures { λ _. ⌜ now (out .exit) ≡ overlay (now (out .entry)) at (stringBytes (now (s .entry)) self) ⌝ }

@@ -12,7 +12,7 @@ use Rattle.fields.specs.Form.{Field}
 use Rattle.model.specs.Table.{size}
 use Rattle.model.specs.Parts.{Marks}
 use Rattle.model_laws.proofs.Slots.Machine.{StreamPart, markedAt, DeleteLists, namedParts, emptySlot, entryIn, DecoderSlots, Item, given, byIndex}
-use Rattle.model_laws.proofs.Slots.Machine.{byName, DecoderTables, fieldOf, fieldNamed}
+use Rattle.model_laws.proofs.Slots.Machine.{byName, DecoderTables, entryField, fieldNamed}
 use Rattle.model_laws.proofs.Slots.Life.{fits-free, GoodSlot}
 use Rattle.model_laws.proofs.Slots.Messages.{EncoderSlot, freeSent, liveSent, deletedSent, Note, noteInsert, noteNamed, noteDelete, SentNote}
 use Rattle.model_laws.proofs.Slots.Messages.{FreedNote, messages, acks}
@@ -33,7 +33,7 @@ asItems (meantName i c n v ∷ b) = byName i n v ∷ asItems b
 unfoldable pub fieldsOf : List MeantItem → List Field
 fieldsOf [] = []
 fieldsOf (meantGiven f ∷ b) = f ∷ fieldsOf b
-fieldsOf (meantIndex i c ∷ b) = fieldOf c ∷ fieldsOf b
+fieldsOf (meantIndex i c ∷ b) = entryField c ∷ fieldsOf b
 fieldsOf (meantName i c n v ∷ b) = fieldNamed n v c ∷ fieldsOf b
 
 -- P of every reference of a block

@@ -25,8 +25,8 @@ markedAt f q = f (q .stream) (q .part)
 
 -- a delete's two lists: horizon and listed streams, for non-trailer and for trailer blocks
 pub record DeleteLists : Type 0 where
-  pub plainHorizon : ℕ
-  pub plainStreams : List ℕ
+  pub nontrailerHorizon : ℕ
+  pub nontrailerStreams : List ℕ
   pub trailerHorizon : ℕ
   pub trailerStreams : List ℕ
 
@@ -43,11 +43,11 @@ partsAmong p (s ∷ l) = record { stream = s; part = p } ∷ partsAmong p l
 unfoldable pub namedParts : DeleteLists → List StreamPart
 unfolding partsBelow partsAmong
 namedParts ls =
-    (partsBelow nontrailer (ls .plainHorizon) ++ partsAmong nontrailer (ls .plainStreams))
+    (partsBelow nontrailer (ls .nontrailerHorizon) ++ partsAmong nontrailer (ls .nontrailerStreams))
     ++ (partsBelow trailer (ls .trailerHorizon) ++ partsAmong trailer (ls .trailerStreams))
 
 abbrev pub noLists : DeleteLists
-noLists = record { plainHorizon = 0; plainStreams = []; trailerHorizon = 0; trailerStreams = [] }
+noLists = record { nontrailerHorizon = 0; nontrailerStreams = []; trailerHorizon = 0; trailerStreams = [] }
 
 unfoldable pub allMarked : Marks → List StreamPart → Bool
 allMarked f [] = true
@@ -113,8 +113,8 @@ unfolding addField
 onEntry g i none r = waitsFor i
 onEntry g i (some c) r = addField (g c) r
 
-abbrev pub fieldOf : Entry → Field
-fieldOf c = record { flag = 0; name = c .name; value = c .value }
+abbrev pub entryField : Entry → Field
+entryField c = record { flag = 0; name = c .name; value = c .value }
 
 abbrev pub fieldNamed : ℕ → List ℕ → Entry → Field
 fieldNamed n v c = record { flag = n; name = c .name; value = v }
@@ -123,7 +123,7 @@ unfoldable pub meaning : DecoderSlots → List Item → BlockAnswer
 unfolding addField onEntry
 meaning t [] = gives []
 meaning t (given f ∷ b) = addField f (meaning t b)
-meaning t (byIndex i ∷ b) = onEntry fieldOf i (entryIn (t i)) (meaning t b)
+meaning t (byIndex i ∷ b) = onEntry entryField i (entryIn (t i)) (meaning t b)
 meaning t (byName i n v ∷ b) = onEntry (fieldNamed n v) i (entryIn (t i)) (meaning t b)
 
 -- ---- the calls

@@ -13,7 +13,7 @@ use Rattle.fields.specs.Form.{Field}
 use Rattle.model.specs.Parts.{Part, inTurn}
 use Rattle.model_laws.proofs.Tables.{nope}
 use Rattle.model_laws.proofs.Slots.Machine.{markedAt, entryIn, DecoderSlots, Item, given, byIndex, byName, BlockAnswer, gives, waitsFor, outOfTurn}
-use Rattle.model_laws.proofs.Slots.Machine.{DecoderTables, addField, onEntry, fieldOf, fieldNamed, meaning, offer, NamesSlot, names-index}
+use Rattle.model_laws.proofs.Slots.Machine.{DecoderTables, addField, onEntry, entryField, fieldNamed, meaning, offer, NamesSlot, names-index}
 use Rattle.model_laws.proofs.Slots.Machine.{names-name, names-later}
 use Rattle.model_laws.proofs.Slots.Messages.{SentNote}
 use Rattle.model_laws.proofs.Slots.Invariant.{MeantItem, meantGiven, meantIndex, meantName, asItems, fieldsOf, EachReference, references-map}
@@ -43,7 +43,7 @@ pub waits-then : (t : DecoderSlots) (b : List Item) (i : ℕ) → meaning t b �
 unfolding meaning
 waits-then t [] i e = nope (cc)
 waits-then t (given f ∷ b) i e = later t _ b i (waits-then t b i (add-wait f (meaning t b) i e))
-waits-then t (byIndex j ∷ b) i e = go (entry-wait fieldOf j (entryIn (t j)) (meaning t b) i e) (λ h. waits-then t b i h)
+waits-then t (byIndex j ∷ b) i e = go (entry-wait entryField j (entryIn (t j)) (meaning t b) i e) (λ h. waits-then t b i h)
   where
     go : ((j ≡ i) × (entryIn (t j) ≡ none)) ⊎ (meaning t b ≡ waitsFor i) → (meaning t b ≡ waitsFor i → WaitsAt t b i) → WaitsAt t (byIndex j ∷ b) i
     go (inl h) f = record { refers = names-index (h .0); empty = rw (h .0) at (h .1) }
@@ -73,7 +73,7 @@ unfolding meaning onEntry
 waits-if t (byIndex j ∷ b) i (names-index e) h = record { slot = j; equal = rw (e, h) }
 waits-if t (byName j n v ∷ b) i (names-name e) h = record { slot = j; equal = rw (e, h) }
 waits-if t (given f ∷ b) i (names-later r) h = add-waits f (meaning t b) (waits-if t b i r h)
-waits-if t (byIndex j ∷ b) i (names-later r) h = entry-waits fieldOf j (entryIn (t j)) (meaning t b) (waits-if t b i r h)
+waits-if t (byIndex j ∷ b) i (names-later r) h = entry-waits entryField j (entryIn (t j)) (meaning t b) (waits-if t b i r h)
 waits-if t (byName j n v ∷ b) i (names-later r) h = entry-waits (fieldNamed n v) j (entryIn (t j)) (meaning t b) (waits-if t b i r h)
 
 -- ---- a block whose references hold what was meant, or nothing
@@ -104,10 +104,10 @@ gives-or-waits t (meantGiven f ∷ b) r = go (gives-or-waits t b r)
 gives-or-waits t (meantIndex i c ∷ b) r = go (r .0) (gives-or-waits t b (r .1))
   where
     go : HeldOrEmpty t i c → (meaning t (asItems b) ≡ gives (fieldsOf b)) ⊎ Waiting (meaning t (asItems b))
-        → (onEntry fieldOf i (entryIn (t i)) (meaning t (asItems b)) ≡ gives (fieldOf c ∷ fieldsOf b))
-        ⊎ Waiting (onEntry fieldOf i (entryIn (t i)) (meaning t (asItems b)))
+        → (onEntry entryField i (entryIn (t i)) (meaning t (asItems b)) ≡ gives (entryField c ∷ fieldsOf b))
+        ⊎ Waiting (onEntry entryField i (entryIn (t i)) (meaning t (asItems b)))
     go (inl h) (inl e) = inl (rw (h, e))
-    go (inl h) (inr w) = inr (entry-waits fieldOf i (entryIn (t i)) _ w)
+    go (inl h) (inr w) = inr (entry-waits entryField i (entryIn (t i)) _ w)
     go (inr h) w = inr (record { slot = i; equal = rw h })
 gives-or-waits t (meantName i c n v ∷ b) r = go (r .0) (gives-or-waits t b (r .1))
   where

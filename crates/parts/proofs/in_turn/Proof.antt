@@ -1,7 +1,7 @@
 use mathlib.Core.Path.{sym, _∙_}
 use native.Mathlib.Omega.{arith}
 use borrow.Author.Needs.{needs}
-use Rattle.parts.proofs.Turns.{turn-above, turn-no-part, turn-plain, turn-early, turn-trailer}
+use Rattle.parts.proofs.Turns.{turn-above, turn-no-part, turn-nontrailer, turn-early, turn-trailer}
 use Rattle.parts.proofs.in_turn.Statement.{statement}
 use Rattle.parts.proofs.in_turn.Tie as tie
 
@@ -17,7 +17,7 @@ is-set-requires : tie.Need-is-set-requires
 is-set-requires c κs = search needs
 
 returns-2 : tie.Need-returns-2
-returns-2 c = c .before .is-set .ensures ∙ sym (turn-plain _ _ _ (omega arith) (omega arith))
+returns-2 c = c .before .is-set .ensures ∙ sym (turn-nontrailer _ _ _ (omega arith) (omega arith))
 
 returns-3 : tie.Need-returns-3
 returns-3 c = sym (turn-no-part _ _ _ (λ e. omega arith) (λ e. omega arith))

@@ -3,8 +3,8 @@ use Prim.Native.Nat.{suc, _-_, _<_}
 use native.Mathlib.Omega.{arith}
 use borrow.Author.Tests.{not-true, not-false}
 use Rattle.state.specs.Layout.{statusAt}
-use Rattle.search.proofs.Fields.{row-field}
-use Rattle.changes.specs.DecoderChanges.{found}
+use Rattle.table_search.proofs.Fields.{row-field}
+use Rattle.table_laws.specs.DecoderChanges.{found}
 use Rattle.decoder.proofs.Standing.{Stands, changes, long}
 use Rattle.decoder.proofs.Holding.{count-few, lowest-low, hold-no-state, hold-low, hold-high, hold-vacant, hold-live, hold-good, hold-told}
 use borrow.Author.Needs.{needs}

@@ -7,7 +7,7 @@ use borrow.Author.Needs.{needs}
 use borrow.Author.Tests.{not-true, not-false}
 use Rattle.state.specs.DecoderState.{decoderOf}
 use Rattle.state.specs.Forms.{formsDecoder}
-use Rattle.changes.specs.DecoderChanges.{DecoderStands}
+use Rattle.table_laws.specs.DecoderChanges.{DecoderStands}
 use Rattle.decoder_collect.proofs.Calls.{leaves, no-state, none-ready}
 use Rattle.decoder_collect.proofs.collect.collect.Statement.{statement}
 use Rattle.decoder_collect.proofs.collect.collect.Tie as tie

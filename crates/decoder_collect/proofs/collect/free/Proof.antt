@@ -11,11 +11,11 @@ use Rattle.integers.specs.Answers.{done}
 use Rattle.instructions.specs.Instruction.{FineIndex, acknowledge, instructionWire}
 use Rattle.state.specs.Layout.{indexAt, statusAt}
 use Rattle.state.specs.DecoderState.{decoderOf}
-use Rattle.search.proofs.Fields.{row-field}
+use Rattle.table_search.proofs.Fields.{row-field}
 use Rattle.deletes.specs.Deletes.{Dropping, dropped}
 use Rattle.sizes.specs.Sizes.{intSize}
 use Rattle.sizes.proofs.Lengths.{acknowledge-size}
-use Rattle.changes.specs.DecoderChanges.{DecoderStands}
+use Rattle.table_laws.specs.DecoderChanges.{DecoderStands}
 use Rattle.decoder_collect.proofs.ReadyRows.{ReadyRow, changes, ready-found}
 use Rattle.decoder_collect.proofs.Calls.{leaves, no-room, frees}
 use Rattle.decoder_collect.proofs.collect.free.Statement.{statement}

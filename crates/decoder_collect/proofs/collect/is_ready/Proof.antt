@@ -7,8 +7,8 @@ use lib.Dec.{eqb}
 use borrow.Author.Needs.{needs}
 use Rattle.state.specs.Layout.{statusAt}
 use Rattle.state.specs.DecoderState.{decoderOf}
-use Rattle.search.proofs.Fields.{row-field}
-use Rattle.changes.specs.DecoderChanges.{DecoderStands}
+use Rattle.table_search.proofs.Fields.{row-field}
+use Rattle.table_laws.specs.DecoderChanges.{DecoderStands}
 use Rattle.decoder_collect.proofs.Readiness.{lowest-ready}
 use Rattle.decoder_collect.proofs.ReadyRows.{live, deleted, changes, good-delete}
 use Rattle.decoder_collect.proofs.collect.is_ready.Statement.{statement}

@@ -7,10 +7,10 @@ use Rattle.blocks.specs.Representation.{indexed}
 use Rattle.blocks.specs.Meaning.{FieldMeaning, field}
 use Rattle.blocks.proofs.MeaningHeld.{static-above}
 use Rattle.state.specs.Layout.{countOf}
-use Rattle.search.specs.Search.{findFrom}
-use Rattle.search.specs.declared.find.Found.the-variants.{At}
-use Rattle.search.specs.declared.place.EntryPlace.the-variants.{Dynamic, Nowhere}
-use Rattle.decoder_survey.specs.Measure.{fieldOf, fieldBytes}
+use Rattle.table_search.specs.Search.{findFrom}
+use Rattle.table_search.specs.declared.find.Found.the-variants.{At}
+use Rattle.table_search.specs.declared.place.EntryPlace.the-variants.{Dynamic, Nowhere}
+use Rattle.decoder_survey.specs.Measure.{fieldMeant, fieldBytes}
 use Rattle.decoder_survey.specs.Passes.{rowField}
 use Rattle.decoder_survey.proofs.Entries.{changes, Located, dynamic}
 use Rattle.decoder_survey.proofs.Fields.{meant-written, names-entry, found, standing}
@@ -25,7 +25,7 @@ here : (c : tie.After-known-told) → let a = c .before .before .before .before 
 here c = let p = c .before .before .before .before .before .before .pre .0 in dynamic _ (p .0) _ (static-above _ (p .1)) _ (row c)
 
 means : (c : tie.After-known-told) → let a = c .before .before .before .before .before .before .args in
-    fieldOf (now (a .m)) (indexed (a .index .value)) ≡ field (rowField (now (a .m)) (c .before .f .given .0 .0))
+    fieldMeant (now (a .m)) (indexed (a .index .value)) ≡ field (rowField (now (a .m)) (c .before .f .given .0 .0))
 means c = found _ _ _ (names-entry _ _) (Dynamic (c .before .f .given .0 .0)) (here c) tt
 
 row-of-requires : tie.Need-row-of-requires

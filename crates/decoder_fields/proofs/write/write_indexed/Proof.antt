@@ -9,7 +9,7 @@ use Rattle.fields.specs.Form.{Field}
 use Rattle.fields.proofs.Sizes.{fieldForm-split}
 use Rattle.blocks.specs.Representation.{indexed}
 use Rattle.blocks.specs.Meaning.{field}
-use Rattle.decoder_survey.specs.Measure.{fieldOf}
+use Rattle.decoder_survey.specs.Measure.{fieldMeant}
 use Rattle.decoder_survey.proofs.Entries.{changes, Here, Located, located}
 use Rattle.decoder_survey.proofs.Fields.{meant-length, meant-written, names-entry, found, standing}
 use Rattle.decoder_fields.proofs.write.write_indexed.Statement.{statement}
@@ -25,7 +25,7 @@ abbrev the-field : tie.After-value-at → Field
 the-field c = record { flag = 0; name = now (c .before .name-at .result); value = now (c .value-at .result) }
 
 means : (c : tie.After-value-at) → let a = c .before .before .before .before .before .before .args in
-    fieldOf (now (a .m)) (indexed (a .index .value)) ≡ field (the-field c)
+    fieldMeant (now (a .m)) (indexed (a .index .value)) ≡ field (the-field c)
 means c =
     found _ _ _ (names-entry _ _) _ (at-place (c .before .before)) (stands (c .before .before))
     ∙ sym (ap₂ (λ (n v : List _). field (record { flag = 0; name = n; value = v })) (c .before .name-at .ensures) (c .value-at .ensures))

@@ -11,7 +11,7 @@ use Rattle.blocks.specs.Reading.{InBytes}
 use Rattle.blocks.specs.Meaning.{fieldMeaning}
 use Rattle.blocks.specs.declared.read.RepresentationPlace.{RepresentationPlace}
 use Rattle.blocks.specs.declared.read.RepresentationPlace.the-variants.{Literal}
-use Rattle.decoder_survey.specs.Measure.{fieldOf, fieldAt, IsField, fieldBytes}
+use Rattle.decoder_survey.specs.Measure.{fieldMeant, fieldAt, IsField, fieldBytes}
 use Rattle.decoder_survey.proofs.Fields.{literal-by}
 use Rattle.decoder_fields.specs.Indexes.{IsLiteral}
 use Rattle.decoder_fields.proofs.write.write_literal_place.Statement.{statement}
@@ -55,7 +55,7 @@ enum-known-name-2 : tie.Need-enum-known-name-2
 enum-known-name-2 c = search needs
 
 write-literal-requires : tie.Need-write-literal-requires
-unfolding fieldOf fieldMeaning
+unfolding fieldMeant fieldMeaning
 write-literal-requires c κs =
     let known = c .before in
     let q = subst (Asked _ _ _ _) (by-bytes known) (known .before .before .before .before .before .before .before .before .before .before .pre .1 .1) in
@@ -77,7 +77,7 @@ same-length-2 : tie.Need-same-length-2
 same-length-2 c = search needs
 
 returns-3 : tie.Need-returns-3
-unfolding fieldOf fieldMeaning
+unfolding fieldMeant fieldMeaning
 returns-3 c =
     let known = c .before .before .before .before in
     let start = known .before .before .before .before .before .before .before .before .before .before in

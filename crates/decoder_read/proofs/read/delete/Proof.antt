@@ -2,8 +2,8 @@ use mathlib.Core.Path.{_≡_, refl, sym, _∙_}
 use Prim.Native.Nat.{_<_}
 use native.Mathlib.Omega.{arith}
 use Rattle.state.specs.Layout.{statusAt}
-use Rattle.search.proofs.Fields.{row-field}
-use Rattle.changes.specs.DecoderChanges.{found}
+use Rattle.table_search.proofs.Fields.{row-field}
+use Rattle.table_laws.specs.DecoderChanges.{found}
 use Rattle.decoder.proofs.Standing.{Stands, meets, changes, long}
 use Rattle.decoder_read.proofs.Deletion.{list-fine, delete-vacant, delete-again, delete-kept}
 use borrow.Author.Needs.{needs}

@@ -6,7 +6,7 @@ use Rattle.wire.specs.Text.{stringLength, stringBytes}
 use Rattle.wire.proofs.TextBounds.{string-size}
 use Rattle.state.specs.Layout.{nameLengthAt}
 use Rattle.state.specs.Rows.{nameAt}
-use Rattle.search.proofs.Fields.{row-field}
+use Rattle.table_search.proofs.Fields.{row-field}
 use Rattle.decoder.proofs.Standing.{Stands, meets, changes, long}
 use Rattle.decoder_read.specs.Steps.{judged, judgedNumber}
 use Rattle.decoder_read.proofs.Naming.{row-name}

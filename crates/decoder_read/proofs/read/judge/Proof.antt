@@ -1,6 +1,6 @@
 use mathlib.Core.Path.{sym, _∙_}
 use native.Mathlib.Omega.{arith}
-use Rattle.search.specs.Search.{Ordered}
+use Rattle.table_search.specs.Search.{Ordered}
 use Rattle.decoder.proofs.Standing.{changes}
 use Rattle.decoder_read.proofs.Insertion.{judged-held, judged-over, judged-full, judged-room}
 use borrow.Author.Needs.{needs}

@@ -1,7 +1,7 @@
 -- `place_of` meets its contract: the definition's test, and then what is found.
 use borrow.Author.Needs.{needs}
 use mathlib.Core.Path.{sym, _∙_}
-use Rattle.search.proofs.Locating.{locate-static, locate-above}
+use Rattle.table_search.proofs.Locating.{locate-static, locate-above}
 use Rattle.decoder_survey.proofs.entry.place_of.Statement.{statement}
 use Rattle.decoder_survey.proofs.entry.place_of.Tie as tie
 

@@ -1,6 +1,6 @@
 -- `row_lengths` meets its contract: both lengths stand in the row.
 use mathlib.Core.Path.{ap₂}
-use Rattle.search.proofs.Fields.{row-field}
+use Rattle.table_search.proofs.Fields.{row-field}
 use Rattle.decoder_survey.specs.declared.entry.EntryLengths.the-variants.{Of}
 use borrow.Author.Needs.{needs}
 use Rattle.decoder_survey.proofs.entry.row_lengths.Statement.{statement}

@@ -3,7 +3,7 @@ use mathlib.Core.Path.{_≡_, ap}
 use Prim.Native.Nat.{ℕ, _+_}
 use native.Mathlib.Omega.{arith}
 use Rattle.state.specs.Layout.{offsetAt, nameLengthAt}
-use Rattle.search.proofs.Fields.{row-field, part-between, name-end}
+use Rattle.table_search.proofs.Fields.{row-field, part-between, name-end}
 use borrow.Author.Needs.{needs}
 use Rattle.decoder_survey.proofs.entry.row_name.Statement.{statement}
 use Rattle.decoder_survey.proofs.entry.row_name.Tie as tie

@@ -3,7 +3,7 @@ use mathlib.Core.Path.{sym, ap, _∙_}
 use native.Mathlib.Omega.{arith}
 use denote.Ref.{now}
 use Rattle.memory.specs.Numbers.{number}
-use Rattle.search.proofs.Finding.{find-at}
+use Rattle.table_search.proofs.Finding.{find-at}
 use borrow.Author.Needs.{needs}
 use Rattle.decoder_survey.proofs.entry.row_of.Statement.{statement}
 use Rattle.decoder_survey.proofs.entry.row_of.Tie as tie

@@ -57,9 +57,9 @@ returns c =
     let u = p .before .before .before in
     let b = u .before .before .before .before in
     let a = b .args in
-    let few = list-counted (a .s .now) (a .plain) (b .pre .1 .0) in
+    let few = list-counted (a .s .now) (a .nontrailer) (b .pre .1 .0) in
     append-stored (a .m .now) (a .place)
-    (record { index = a .index .value; plain = listOf (a .s .now) (a .plain); trailer = listOf (a .s .now) (a .trailer) }) _ _
+    (record { index = a .index .value; nontrailer = listOf (a .s .now) (a .nontrailer); trailer = listOf (a .s .now) (a .trailer) }) _ _
     (u .u16-at .ensures) (p .before .before .delete-place .ensures) (omega (arith, few, b .pre .1 .0 .few)) _ _ _ _ _
     (p .put-u32 .ensures) (q .put-list .ensures) (r .put-list2 .ensures) (s .set-status .ensures) (f .put-u16 .ensures)
 

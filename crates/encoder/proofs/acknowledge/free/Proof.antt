@@ -5,8 +5,8 @@ use native.Mathlib.Omega.{arith}
 use borrow.Author.Needs.{needs}
 use Rattle.memory.specs.Bytes.{Small}
 use Rattle.memory.specs.Numbers.{number}
-use Rattle.changes.specs.DecoderChanges.{found}
-use Rattle.changes.specs.EncoderChanges.{EncoderChanges}
+use Rattle.table_laws.specs.DecoderChanges.{found}
+use Rattle.table_laws.specs.EncoderChanges.{EncoderChanges}
 use Rattle.state.specs.Layout.{statusAt}
 use Rattle.state.specs.EncoderState.{encoderOf}
 use Rattle.encoder.proofs.Leaving.{answer-of, memory-of}

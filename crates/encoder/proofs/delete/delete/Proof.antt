@@ -9,7 +9,7 @@ use Rattle.memory.specs.Bytes.{Small}
 use Rattle.memory.specs.Numbers.{number}
 use Rattle.state.specs.Layout.{statusAt}
 use Rattle.state.specs.Forms.{formsEncoder}
-use Rattle.changes.specs.DecoderChanges.{found}
+use Rattle.table_laws.specs.DecoderChanges.{found}
 use Rattle.encoder.proofs.Leaving.{answer-of, memory-of, output-of}
 use Rattle.encoder.proofs.Standing.{changes, row-found}
 use Rattle.encoder.proofs.Deleting.{delete-no-state, delete-low, delete-high, delete-vacant, delete-deleted, delete-found}

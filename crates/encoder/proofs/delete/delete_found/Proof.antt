@@ -24,8 +24,8 @@ u16-at-requires c κs =
     let r = row s in
     omega (arith, c .before .reference-place .ensures, r .high, long _ (small s) (s .before .pre .0))
 
-cast-plain : tie.Need-cast-plain
-cast-plain c = search needs
+cast-nontrailer : tie.Need-cast-nontrailer
+cast-nontrailer c = search needs
 
 add-u16-at : tie.Need-add-u16-at
 add-u16-at c = search needs
@@ -119,7 +119,7 @@ delete-found-spec =
     (tie.spec
     reference-place-requires
     u16-at-requires
-    cast-plain
+    cast-nontrailer
     add-u16-at
     u16-at-requires-2
     cast-trailer

@@ -7,7 +7,7 @@ use native.Mathlib.Omega.{arith}
 use borrow.Author.Tests.{not-true, not-false}
 use Rattle.memory.specs.Bytes.{Small}
 use Rattle.integers.specs.Answers.{refusal}
-use Rattle.fields.specs.Reading.{readList}
+use Rattle.fields.specs.Reading.{readFieldList}
 use Rattle.fields.proofs.Walk.{checked}
 use Rattle.model.specs.Parts.{Marks, partOf}
 use Rattle.state.specs.EncoderState.{encoderOf}
@@ -81,7 +81,7 @@ returns-3 : tie.Need-returns-3
 returns-3 c =
     let a = c .before .before .before .before .before .before .before .before .before .before .before .before .args in
     let n = c .before .before .check-list .ensures in
-    let e = list-refused (readList (now (a .s))) (λ z. c .before .if3 .taken (n ∙ z)) in
+    let e = list-refused (readFieldList (now (a .s))) (λ z. c .before .if3 .taken (n ∙ z)) in
     let turn = c .before .before .before in
     tells-refused _ _ _ _ (not-a-list (now (a .m)) (a .stream) (a .part) (now (a .s)) (now (a .out)) (formed (turn .before .before .before)) (due turn) _ e) _
     (c .refused3 .ensures ∙ ap refusal n)

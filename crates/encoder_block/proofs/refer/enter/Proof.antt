@@ -1,6 +1,6 @@
 -- `enter` meets its contract, by the kind of the index and by the part.
 use mathlib.Core.Path.{_∙_}
-use Rattle.encoder_block.proofs.Entering.{entered-static, entered-plain, entered-trailer}
+use Rattle.encoder_block.proofs.Entering.{entered-static, entered-nontrailer, entered-trailer}
 use borrow.Author.Needs.{needs}
 use Rattle.encoder_block.proofs.refer.enter.Statement.{statement}
 use Rattle.encoder_block.proofs.refer.enter.Tie as tie
@@ -8,8 +8,8 @@ use Rattle.encoder_block.proofs.refer.enter.Tie as tie
 returns : tie.Need-returns
 returns c = entered-static _ _ _ _ (c .if1 .taken)
 
-refer-plain-requires : tie.Need-refer-plain-requires
-refer-plain-requires c κs = search needs
+refer-nontrailer-requires : tie.Need-refer-nontrailer-requires
+refer-nontrailer-requires c κs = search needs
 
 refer-trailer-requires : tie.Need-refer-trailer-requires
 refer-trailer-requires c κs = search needs
@@ -20,7 +20,7 @@ same-length c = search needs
 returns-2 : tie.Need-returns-2
 returns-2 c =
     let part = c .before .before .before .before in
-    c .before .before .refer-plain .ensures ∙ entered-plain _ _ _ _ (part .before .if1 .left) (part .if2 .taken)
+    c .before .before .refer-nontrailer .ensures ∙ entered-nontrailer _ _ _ _ (part .before .if1 .left) (part .if2 .taken)
 
 same-length-2 : tie.Need-same-length-2
 same-length-2 c = search needs
@@ -35,7 +35,7 @@ enter-spec =
     tie.close
     (tie.spec
     returns
-    refer-plain-requires
+    refer-nontrailer-requires
     refer-trailer-requires
     same-length
     returns-2

@@ -8,7 +8,7 @@ use lib.ListN.{length}
 use borrow.Author.Tests.{not-true, not-false}
 use Rattle.memory.specs.Bytes.{Small, overlay}
 use Rattle.memory.proofs.Order.{pick-true, pick-false}
-use Rattle.fields.specs.Form.{Fine}
+use Rattle.fields.specs.Form.{FineField}
 use Rattle.fields.specs.Reading.{fieldOf}
 use Rattle.blocks.specs.Representation.{Representation, representationWire}
 use Rattle.model.specs.Encoder.{choose}
@@ -27,7 +27,7 @@ start c = c .before .before .before .before .before
 small : (c : tie.After-choose-field) → Small (now (start c .args .m))
 small c k = omega (arith, c .before .before .before .before .slice-known .given k)
 
-fine : (c : tie.After-choose-field) → Fine (fieldOf (now (start c .args .s)) (start c .args .f))
+fine : (c : tie.After-choose-field) → FineField (fieldOf (now (start c .args .s)) (start c .args .f))
 fine c = field-fine _ _ (start c .pre .1 .0)
 
 -- memory with the reference, and the output with the bytes

@@ -11,9 +11,9 @@ use Rattle.blocks.specs.Representation.{indexed, literal}
 use Rattle.model.specs.Encoder.{chooseName, choose}
 use Rattle.state.specs.Layout.{countOf}
 use Rattle.state.specs.EncoderState.{encoderOf}
-use Rattle.search.specs.Search.{servesBothAt, lowestRow}
-use Rattle.search.specs.declared.names.Sought.the-variants.{Nothing as NoRow}
-use Rattle.search.proofs.Pairing.{paired-both, paired-name, paired-none}
+use Rattle.table_search.specs.Search.{servesBothAt, lowestRow}
+use Rattle.table_search.specs.declared.names.Sought.the-variants.{Nothing as NoRow}
+use Rattle.table_search.proofs.Pairing.{paired-both, paired-name, paired-none}
 use Rattle.encoder_fields.specs.Measure.{fieldWith}
 use Rattle.encoder_fields.proofs.Choosing.{name-static, name-row, name-text, choose-static, ordered, serving-row, both-row, choose-row, choose-else}
 use borrow.Author.Needs.{needs}

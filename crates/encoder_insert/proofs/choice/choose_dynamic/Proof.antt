@@ -5,7 +5,7 @@ use borrow.Author.Needs.{needs}
 use Rattle.memory.specs.Bytes.{Small}
 use Rattle.memory.specs.Numbers.{number}
 use Rattle.wire.specs.Name.{indexed}
-use Rattle.search.specs.Search.{Ordered}
+use Rattle.table_search.specs.Search.{Ordered}
 use Rattle.encoder.proofs.Standing.{changes}
 use Rattle.encoder_insert.proofs.Naming.{choice-row, choice-bytes}
 use Rattle.encoder_insert.proofs.choice.choose_dynamic.Statement.{statement}

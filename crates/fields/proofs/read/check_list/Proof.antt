@@ -7,7 +7,7 @@ use native.Mathlib.Omega.{arith}
 use borrow.Author.Needs.{needs}
 use lib.ListN.{length}
 use Rattle.fields.specs.Form.{Field}
-use Rattle.fields.specs.Reading.{fieldAnswer, listAnswer, fieldOf, fieldsFrom, readList, ListRead}
+use Rattle.fields.specs.Reading.{fieldAnswer, fieldListAnswer, fieldOf, fieldsFrom, readFieldList, FieldListRead}
 use Rattle.fields.specs.declared.read.FieldRead.{FieldRead}
 use Rattle.fields.proofs.Bounds.{field-good}
 use Rattle.fields.proofs.Turns.{fields-done, fields-refused, fields-more}
@@ -16,7 +16,7 @@ use Rattle.fields.proofs.read.check_list.Tie as tie
 
 abbrev Inv-loop : tie.InvT-loop
 Inv-loop s at₀ at =
-    (f : ℕ) × (before : List Field) × (length s ≤ at + f) × (readList s ≡ fieldsFrom f s at before) × (at ≤ length s)
+    (f : ℕ) × (before : List Field) × (length s ≤ at + f) × (readFieldList s ≡ fieldsFrom f s at before) × (at ≤ length s)
 
 abbrev μ-loop : tie.MeasureT-loop
 μ-loop s at₀ at = length s - at
@@ -40,7 +40,7 @@ returns : tie.Need-returns Inv-loop μ-loop
 returns c =
     let l = c .before .before .before .before .before .loop in
     c .number .ensures ∙ ap (λ (r : FieldRead). fieldAnswer r .number) (c .before .enum-told .given .1)
-    ∙ sym (ap (λ (r : ListRead). listAnswer r .number) (l .inv .3 ∙ fields-refused _ _ _ (c .before .before .before .before .loop-test .taken) _
+    ∙ sym (ap (λ (r : FieldListRead). fieldListAnswer r .number) (l .inv .3 ∙ fields-refused _ _ _ (c .before .before .before .before .loop-test .taken) _
     (c .before .before .before .read-field .ensures) (l .inv .0) (omega arith) _ (c .before .enum-told .given .1)))
 
 loop-less : tie.Need-loop-less Inv-loop μ-loop
@@ -60,7 +60,7 @@ loop-again c =
     )
 
 returns-2 : tie.Need-returns-2 Inv-loop μ-loop
-returns-2 c = sym (ap (λ (r : ListRead). listAnswer r .number) (c .before .loop .inv .3 ∙ fields-done _ _ _ _ (c .loop-test .left)))
+returns-2 c = sym (ap (λ (r : FieldListRead). fieldListAnswer r .number) (c .before .loop .inv .3 ∙ fields-done _ _ _ _ (c .loop-test .left)))
 
 pub check-list-spec : {M : Type 1} → statement M
 check-list-spec =

@@ -5,7 +5,7 @@ use Rattle.wire.specs.declared.stream_list.ListRead.{ListRead}
 use Rattle.instructions.specs.Reading.{indexAnswer}
 use Rattle.instructions.specs.declared.read.IndexRead.{IndexRead}
 use Rattle.instructions.specs.declared.read.InstructionRead.the-variants.{Refused}
-use Rattle.instructions.proofs.Equations.{delete-refused, delete-plain-refused, delete-trailer-refused, delete-found}
+use Rattle.instructions.proofs.Equations.{delete-refused, delete-nontrailer-refused, delete-trailer-refused, delete-found}
 use borrow.Author.Needs.{needs}
 use Rattle.instructions.proofs.read.read_delete.Statement.{statement}
 use Rattle.instructions.proofs.read.read_delete.Tie as tie
@@ -43,7 +43,7 @@ returns-2 : tie.Need-returns-2
 returns-2 c =
     let u = c .before .before .before in
     ap Refused (c .number2 .ensures ∙ ap (λ (r : ListRead). listAnswer r .number) (c .before .enum-told2 .given .1))
-    ∙ sym (delete-plain-refused _ _ (u .before .before .before .before .read-index .ensures) _ _ (u .before .before .r .given .1)
+    ∙ sym (delete-nontrailer-refused _ _ (u .before .before .before .before .read-index .ensures) _ _ (u .before .before .r .given .1)
     _ (u .read-list .ensures) _ (c .before .enum-told2 .given .1))
 
 read-list-requires-2 : tie.Need-read-list-requires-2

@@ -1,6 +1,6 @@
 -- `kolowrotan_decoder_block`: the call's answer is narrow, so it packs.
 use mathlib.Core.Path.{ap, _∙_}
-use Rattle.reply.specs.Reply.{packed}
+use Rattle.reply.specs.Reply.{joined}
 use Rattle.kolowrotan.proofs.Narrow.{narrow, block-call}
 use borrow.Author.Needs.{needs}
 use Rattle.kolowrotan.proofs.decoder_calls.kolowrotan_decoder_block.Statement.{statement}
@@ -9,8 +9,8 @@ use Rattle.kolowrotan.proofs.decoder_calls.kolowrotan_decoder_block.Tie
 block-requires : tie.Need-block-requires
 block-requires c κs = search needs
 
-pack-requires : tie.Need-pack-requires
-pack-requires c κs = narrow (c .before .before .before .before .block .ensures .0) (block-call _ _ _ _ _)
+join-requires : tie.Need-join-requires
+join-requires c κs = narrow (c .before .before .before .before .block .ensures .0) (block-call _ _ _ _ _)
 
 same-length : tie.Need-same-length
 same-length c = search needs
@@ -19,7 +19,7 @@ same-length-2 : tie.Need-same-length-2
 same-length-2 c = search needs
 
 returns : tie.Need-returns
-returns c = (c .pack .ensures ∙ ap packed (c .before .before .before .before .before .block .ensures .0), c .before .before .before .before .before .block .ensures .1)
+returns c = (c .join .ensures ∙ ap joined (c .before .before .before .before .before .block .ensures .0), c .before .before .before .before .before .block .ensures .1)
 
 pub kolowrotan-decoder-block-spec : {M : Type 1} → statement M
-kolowrotan-decoder-block-spec = tie.close (tie.spec block-requires pack-requires same-length same-length-2 returns)
+kolowrotan-decoder-block-spec = tie.close (tie.spec block-requires join-requires same-length same-length-2 returns)

@@ -1,6 +1,6 @@
 -- `kolowrotan_decoder_collect`: the call's answer is narrow, so it packs.
 use mathlib.Core.Path.{ap, _∙_}
-use Rattle.reply.specs.Reply.{packed}
+use Rattle.reply.specs.Reply.{joined}
 use Rattle.kolowrotan.proofs.Narrow.{narrow, collect-call}
 use borrow.Author.Needs.{needs}
 use Rattle.kolowrotan.proofs.decoder_calls.kolowrotan_decoder_collect.Statement.{statement}
@@ -9,8 +9,8 @@ use Rattle.kolowrotan.proofs.decoder_calls.kolowrotan_decoder_collect.T
 collect-requires : tie.Need-collect-requires
 collect-requires c κs = search needs
 
-pack-requires : tie.Need-pack-requires
-pack-requires c κs = narrow (c .before .before .before .before .collect .ensures .0) (collect-call _ _)
+join-requires : tie.Need-join-requires
+join-requires c κs = narrow (c .before .before .before .before .collect .ensures .0) (collect-call _ _)
 
 same-length : tie.Need-same-length
 same-length c = search needs
@@ -19,7 +19,7 @@ same-length-2 : tie.Need-same-length-2
 same-length-2 c = search needs
 
 returns : tie.Need-returns
-returns c = (c .pack .ensures ∙ ap packed (c .before .before .before .before .before .collect .ensures .0), c .before .before .before .before .before .collect .ensures .1)
+returns c = (c .join .ensures ∙ ap joined (c .before .before .before .before .before .collect .ensures .0), c .before .before .before .before .before .collect .ensures .1)
 
 pub kolowrotan-decoder-collect-spec : {M : Type 1} → statement M
-kolowrotan-decoder-collect-spec = tie.close (tie.spec collect-requires pack-requires same-length same-length-2 returns)
+kolowrotan-decoder-collect-spec = tie.close (tie.spec collect-requires join-requires same-length same-length-2 returns)

@@ -1,6 +1,6 @@
 -- `kolowrotan_decoder_ended`: the call's answer is narrow, so it packs.
 use mathlib.Core.Path.{ap, _∙_}
-use Rattle.reply.specs.Reply.{packed}
+use Rattle.reply.specs.Reply.{joined}
 use Rattle.kolowrotan.proofs.Narrow.{narrow, ended-call}
 use borrow.Author.Needs.{needs}
 use Rattle.kolowrotan.proofs.decoder_calls.kolowrotan_decoder_ended.Statement.{statement}
@@ -9,14 +9,14 @@ use Rattle.kolowrotan.proofs.decoder_calls.kolowrotan_decoder_ended.Tie
 ended-requires : tie.Need-ended-requires
 ended-requires c κs = search needs
 
-pack-requires : tie.Need-pack-requires
-pack-requires c κs = narrow (c .before .before .ended .ensures .0) (ended-call _ _)
+join-requires : tie.Need-join-requires
+join-requires c κs = narrow (c .before .before .ended .ensures .0) (ended-call _ _)
 
 same-length : tie.Need-same-length
 same-length c = search needs
 
 returns : tie.Need-returns
-returns c = (c .pack .ensures ∙ ap packed (c .before .before .before .ended .ensures .0), c .before .before .before .ended .ensures .1)
+returns c = (c .join .ensures ∙ ap joined (c .before .before .before .ended .ensures .0), c .before .before .before .ended .ensures .1)
 
 pub kolowrotan-decoder-ended-spec : {M : Type 1} → statement M
-kolowrotan-decoder-ended-spec = tie.close (tie.spec ended-requires pack-requires same-length returns)
+kolowrotan-decoder-ended-spec = tie.close (tie.spec ended-requires join-requires same-length returns)

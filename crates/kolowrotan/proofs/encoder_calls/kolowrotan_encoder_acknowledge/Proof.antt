@@ -1,6 +1,6 @@
 -- `kolowrotan_encoder_acknowledge`: the call's answer is narrow, so it packs.
 use mathlib.Core.Path.{ap, _∙_}
-use Rattle.reply.specs.Reply.{packed}
+use Rattle.reply.specs.Reply.{joined}
 use Rattle.kolowrotan.proofs.Narrow.{narrow}
 use Rattle.kolowrotan.proofs.NarrowEncoder.{encoder-acknowledge}
 use borrow.Author.Needs.{needs}
@@ -10,14 +10,14 @@ use Rattle.kolowrotan.proofs.encoder_calls.kolowrotan_encoder_acknowled
 acknowledge-requires : tie.Need-acknowledge-requires
 acknowledge-requires c κs = search needs
 
-pack-requires : tie.Need-pack-requires
-pack-requires c κs = narrow (c .before .before .acknowledge .ensures .0) (encoder-acknowledge _ _)
+join-requires : tie.Need-join-requires
+join-requires c κs = narrow (c .before .before .acknowledge .ensures .0) (encoder-acknowledge _ _)
 
 same-length : tie.Need-same-length
 same-length c = search needs
 
 returns : tie.Need-returns
-returns c = (c .pack .ensures ∙ ap packed (c .before .before .before .acknowledge .ensures .0), c .before .before .before .acknowledge .ensures .1)
+returns c = (c .join .ensures ∙ ap joined (c .before .before .before .acknowledge .ensures .0), c .before .before .before .acknowledge .ensures .1)
 
 pub kolowrotan-encoder-acknowledge-spec : {M : Type 1} → statement M
-kolowrotan-encoder-acknowledge-spec = tie.close (tie.spec acknowledge-requires pack-requires same-length returns)
+kolowrotan-encoder-acknowledge-spec = tie.close (tie.spec acknowledge-requires join-requires same-length returns)

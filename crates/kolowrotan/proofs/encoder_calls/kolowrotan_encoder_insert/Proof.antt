@@ -1,6 +1,6 @@
 -- `kolowrotan_encoder_insert`: the call's answer is narrow, so it packs.
 use mathlib.Core.Path.{ap, _∙_}
-use Rattle.reply.specs.Reply.{packed}
+use Rattle.reply.specs.Reply.{joined}
 use Rattle.kolowrotan.proofs.Narrow.{narrow}
 use Rattle.kolowrotan.proofs.NarrowEncoder.{encoder-insert}
 use borrow.Author.Needs.{needs}
@@ -10,8 +10,8 @@ use Rattle.kolowrotan.proofs.encoder_calls.kolowrotan_encoder_insert.Ti
 insert-requires : tie.Need-insert-requires
 insert-requires c κs = search needs
 
-pack-requires : tie.Need-pack-requires
-pack-requires c κs = narrow (c .before .before .before .before .insert .ensures .0) (encoder-insert _ _ _ _)
+join-requires : tie.Need-join-requires
+join-requires c κs = narrow (c .before .before .before .before .insert .ensures .0) (encoder-insert _ _ _ _)
 
 same-length : tie.Need-same-length
 same-length c = search needs
@@ -20,7 +20,7 @@ same-length-2 : tie.Need-same-length-2
 same-length-2 c = search needs
 
 returns : tie.Need-returns
-returns c = (c .pack .ensures ∙ ap packed (c .before .before .before .before .before .insert .ensures .0), c .before .before .before .before .before .insert .ensures .1)
+returns c = (c .join .ensures ∙ ap joined (c .before .before .before .before .before .insert .ensures .0), c .before .before .before .before .before .insert .ensures .1)
 
 pub kolowrotan-encoder-insert-spec : {M : Type 1} → statement M
-kolowrotan-encoder-insert-spec = tie.close (tie.spec insert-requires pack-requires same-length same-length-2 returns)
+kolowrotan-encoder-insert-spec = tie.close (tie.spec insert-requires join-requires same-length same-length-2 returns)

@@ -6,7 +6,7 @@ use native.Mathlib.Omega.{arith}
 use borrow.Author.Needs.{needs}
 use lib.ListN.{length}
 use Rattle.fields.specs.Form.{Field}
-use Rattle.fields.specs.Reading.{fieldOf, fieldsFrom, readList, ListRead}
+use Rattle.fields.specs.Reading.{fieldOf, fieldsFrom, readFieldList, FieldListRead}
 use Rattle.fields.proofs.Bounds.{field-good}
 use Rattle.fields.proofs.Turns.{fields-done, fields-refused, fields-more}
 use Rattle.reports.specs.Report.{turnsName, hoursName, withField, said, combined, hoursOf}
@@ -19,7 +19,7 @@ use Rattle.reports.proofs.hours.read_hours.Tie as tie
 -- the turns and the counter are what the fields before the place say
 abbrev Walked : List ℕ → Said → Said → ℕ → Type 0
 Walked s turns counter at =
-    (f : ℕ) × (before : List Field) × (length s ≤ at + f) × (readList s ≡ fieldsFrom f s at before) × (at ≤ length s)
+    (f : ℕ) × (before : List Field) × (length s ≤ at + f) × (readFieldList s ≡ fieldsFrom f s at before) × (at ≤ length s)
     × (turns ≡ said turnsName before Nothing) × (counter ≡ said hoursName before Nothing)
 
 -- one field more

@@ -5,7 +5,7 @@ use native.Mathlib.Omega.{arith}
 use borrow.Author.Tests.{not-true, not-false}
 use Rattle.state.specs.Layout.{deleteCount}
 use Rattle.state.specs.Forms.{deletesOk}
-use Rattle.state.proofs.FormsTurns.{deletes-start, deletes-plain, deletes-trailer, deletes-turn, deletes-end}
+use Rattle.state.proofs.FormsTurns.{deletes-start, deletes-nontrailer, deletes-trailer, deletes-turn, deletes-end}
 use Rattle.state.proofs.decoder.deletes_ok.Statement.{statement}
 use Rattle.state.proofs.decoder.deletes_ok.Tie as tie
 
@@ -36,7 +36,7 @@ list-ok-requires c κs = omega arith
 returns : tie.Need-returns Inv-loop μ-loop
 returns c =
     let d = c .before .before in
-    sym (d .before .before .loop .inv .1 ∙ deletes-plain _ _ _ (d .before .loop-test .taken) _ (d .delete-place .ensures)
+    sym (d .before .before .loop .inv .1 ∙ deletes-nontrailer _ _ _ (d .before .loop-test .taken) _ (d .delete-place .ensures)
     (sym (c .before .list-ok .ensures) ∙ not-true _ (c .if1 .taken)))
 
 add-list-ok-2 : tie.Need-add-list-ok-2 Inv-loop μ-loop

@@ -4,7 +4,7 @@ use Prim.Native.Nat.{ℕ}
 use mathlib.Core.Path.{sym, ap, _∙_}
 use native.Mathlib.Omega.{arith}
 use lib.Dec.{leb}
-use Rattle.state.proofs.FormsWays.{index-is, reference-status, reference-plain, reference-trailer}
+use Rattle.state.proofs.FormsWays.{index-is, reference-status, reference-nontrailer, reference-trailer}
 use Rattle.state.proofs.encoder.reference_ok.Statement.{statement}
 use Rattle.state.proofs.encoder.reference_ok.Tie as tie
 
@@ -34,7 +34,7 @@ u16-at-requires-2 c κs = omega (arith, index-is _ _ _ (c .before .before .befor
 returns-2 : tie.Need-returns-2
 returns-2 c =
     let r = c .before .before .before in
-    sym (reference-plain _ _ _ (r .before .before .before .row-place .ensures) _ (r .u32-at .ensures)
+    sym (reference-nontrailer _ _ _ (r .before .before .before .row-place .ensures) _ (r .u32-at .ensures)
     _ (c .before .before .reference-place .ensures) (omega arith) (omega arith))
 
 add-u16-at-2 : tie.Need-add-u16-at-2

@@ -2,7 +2,7 @@
 use mathlib.Core.Path.{_≡_, sym, ap}
 use Prim.Native.Nat.{ℕ}
 use Rattle.statics.specs.Table.{entries, entryAt}
-use Rattle.statics.specs.Search.{lowest}
+use Rattle.statics.specs.Search.{lowestStatic}
 use Rattle.statics.specs.Hash.{hashOf, hashedOf}
 use Rattle.statics.proofs.Hashing.{hash-rest}
 use Rattle.statics.proofs.hashes.hashed_entry.Statement.{statement}
@@ -12,7 +12,7 @@ arm : {i k : ℕ} → i ≡ k → hashedOf k ≡ hashedOf i
 arm e = ap hashedOf (sym e)
 
 pub hashed-entry-spec : {M : Type 1} → statement M
-unfolding hashedOf hashOf lowest entryAt entries
+unfolding hashedOf hashOf lowestStatic entryAt entries
 hashed-entry-spec =
     tie.close
     (tie.spec

@@ -19,10 +19,10 @@ same-length c = search needs
 
 returns : tie.Need-returns
 returns c =
-    let plain = c .before .before .before .before .before .before in
-    let head = plain .before .before .before .before in
+    let nontrailer = c .before .before .before .before .before .before in
+    let head = nontrailer .before .before .before .before in
     let a = head .before .before .before .args in
-    marks-stored (a .m .now) _ _ _ (a .role) (a .limit) (head .put-head .ensures) (plain .set-all .ensures) (c .before .before .set-all2 .ensures)
+    marks-stored (a .m .now) _ _ _ (a .role) (a .limit) (head .put-head .ensures) (nontrailer .set-all .ensures) (c .before .before .set-all2 .ensures)
 
 pub start-spec : {M : Type 1} → statement M
 start-spec =

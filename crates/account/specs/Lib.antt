@@ -1,2 +1,0 @@
--- The record of a table.
-pub mod Account

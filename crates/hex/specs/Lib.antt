@@ -1,2 +1,0 @@
--- What the programs that read vectors share.
-pub mod Counts

@@ -1,2 +1,0 @@
--- What holds an entry under deletion.
-pub mod Hold

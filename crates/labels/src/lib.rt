@@ -1,0 +1,105 @@
+// Words for what the programs tell: answers, calls, parts and faults. A table of words is a text with a line for each number from 0 on.
+use recording::Fault;
+use recording::Kind;
+use text_io::print::number;
+use text_io::print::words;
+use tokens::hex::line_end;
+
+// Line `k` of a table.
+pub fn entry(text: &mut [u8], n: usize, table: &[u8], k: usize) -> usize {
+    let mut left = k;
+    let mut at: usize = 0;
+    while at < table.len() {
+        let end = line_end(table, at);
+        if left == 0 {
+            return words(text, n, &table[at..end]);
+        }
+        left -= 1;
+        at = end + 1;
+    }
+    n
+}
+
+// Document 01's numbered table, shortened.
+pub fn answer_name(text: &mut [u8], n: usize, answer: u8) -> usize {
+    let table = b"done\n\
+        vacant index\n\
+        bytes end too early\n\
+        integer too large or too long\n\
+        H set\n\
+        index or instruction not allowed\n\
+        index held\n\
+        limit passed\n\
+        index vacant\n\
+        entry already under deletion\n\
+        entry not under deletion\n\
+        stream, part or turn not allowed\n\
+        lent output or memory too small\n\
+        string or block too long\n\
+        bad stream list\n\
+        all places held\n\
+        field list not in its form\n\
+        memory forms no state\n";
+    entry(text, n, table, answer as usize)
+}
+
+// What a call of each kind is about.
+pub fn kind_name(text: &mut [u8], n: usize, kind: Kind) -> usize {
+    let table = b"decoder start\n\
+        management\n\
+        block\n\
+        end of stream\n\
+        collect\n\
+        hold enquiry\n\
+        encoder start\n\
+        encoder insert\n\
+        encoder delete\n\
+        encoder block\n\
+        acknowledgement\n";
+    entry(text, n, table, kind_number(kind))
+}
+
+fn kind_number(kind: Kind) -> usize {
+    match kind {
+        Kind::DecoderStart => 0,
+        Kind::DecoderRead => 1,
+        Kind::DecoderBlock => 2,
+        Kind::DecoderEnded => 3,
+        Kind::DecoderCollect => 4,
+        Kind::DecoderHold => 5,
+        Kind::EncoderStart => 6,
+        Kind::EncoderInsert => 7,
+        Kind::EncoderDelete => 8,
+        Kind::EncoderBlock => 9,
+        Kind::EncoderAcknowledge => 10,
+    }
+}
+
+// A part of a stream by its number.
+pub fn part_name(text: &mut [u8], n: usize, part: u64) -> usize {
+    if part < 2 {
+        return entry(text, n, b"message\ntrailer\n", part as usize);
+    }
+    let a = words(text, n, b"part ");
+    number(text, a, part)
+}
+
+// Why a line is no call.
+pub fn fault_name(text: &mut [u8], n: usize, fault: Fault) -> usize {
+    let table = b"no such call\n\
+        a number is missing, or is none of 0 to 2^64 - 1\n\
+        bytes are missing, are no pairs of hexadecimal digits, or are more than 20,000\n\
+        the room is no number of 0 to 65,536\n\
+        more words than the call has\n";
+    entry(text, n, table, fault_number(fault))
+}
+
+fn fault_number(fault: Fault) -> usize {
+    match fault {
+        Fault::NoSuchCall => 0,
+        Fault::NoNumber => 1,
+        Fault::NoBytes => 2,
+        Fault::BadRoom => 3,
+        Fault::MoreWords => 4,
+    }
+}

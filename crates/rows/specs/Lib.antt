@@ -1,2 +1,0 @@
--- Rows of the table in memory.
-pub mod Rows

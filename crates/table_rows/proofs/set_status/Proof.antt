@@ -1,0 +1,26 @@
+use Rattle.table_rows.specs.Rows.{statusSet}
+use borrow.Author.Needs.{needs}
+use Rattle.table_rows.proofs.set_status.Statement.{statement}
+use Rattle.table_rows.proofs.set_status.Tie as tie
+
+-- `table::rows::set_status` meets its contract: one number is stored.
+
+row-place-requires : tie.Need-row-place-requires
+row-place-requires c κs = search needs
+
+add-put-u16 : tie.Need-add-put-u16
+add-put-u16 c = search needs
+
+put-u16-requires : tie.Need-put-u16-requires
+put-u16-requires c κs = search needs
+
+same-length : tie.Need-same-length
+same-length c = search needs
+
+returns : tie.Need-returns
+unfolding statusSet
+returns c = rw (c .before .before .put-u16 .ensures, c .before .before .before .row-place .ensures)
+
+pub set-status-spec : {M : Type 1} → statement M
+set-status-spec =
+    tie.close (tie.spec row-place-requires add-put-u16 put-u16-requires same-length returns)

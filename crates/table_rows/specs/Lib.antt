@@ -1,0 +1,3 @@
+-- Rows of the table in memory.
+pub mod Rows
+pub mod Account

@@ -1,0 +1,88 @@
+-- The searches of rows in memory are the model's searches of the list of those rows. By induction over the rows, one step of both at a time.
+use mathlib.Core.Path.{_≡_, refl, sym, ap, _∙_}
+use Prim.Native.Nat.{ℕ, zero, suc, _+_, _≤_, _<_}
+use native.Mathlib.Omega.{arith}
+use mathlib.Core.Bool.{Bool}
+use mathlib.Core.Option.{none, some}
+use mathlib.Core.List.{List}
+use lib.Dec.{eqb}
+use Rattle.memory.specs.Choice.{pick}
+use Rattle.memory.proofs.Order.{pick-both, pick-true, pick-false}
+use Rattle.model.specs.Table.{Ascending, look, lowest, vacantFrom as lowestVacant}
+use Rattle.model_laws.proofs.Tables.{nope, pick-eq, pick-lt, pick-yes, pick-no, look-below}
+use Rattle.state.specs.Layout.{indexAt}
+use Rattle.state.specs.Rows.{Row as TableRow, rowIndex, rowAt, rowsOf}
+use Rattle.table_search.specs.Search.{findFrom, vacantRow, lowestRow}
+use Rattle.table_search.specs.declared.find.Found.{Found}
+use Rattle.table_search.specs.declared.find.Found.the-variants.{At, Vacant}
+use Rattle.table_search.specs.declared.names.Sought.{Sought}
+use Rattle.table_search.specs.declared.names.Sought.the-variants.{Row, Nothing}
+
+module _ (m : List ℕ) where
+  -- ---- by index, of the k rows from row i on
+
+  pub find-look : (x k i p : ℕ) → findFrom m x k i ≡ At p → (look rowIndex x (rowsOf m i k) ≡ some (rowAt m p)) × (i ≤ p) × (p < i + k)
+  unfolding findFrom look rowsOf
+  find-look x zero i p e = nope (cc)
+  find-look x (suc k) i p e =
+      pick-lt (λ (r : Found). r ≡ At p → (look rowIndex x (rowsOf m i (suc k)) ≡ some (rowAt m p)) × (i ≤ p) × (p < i + suc k))
+      (indexAt m i) x (findFrom m x k (i + 1)) (pick (eqb (indexAt m i) x) (At i) (Vacant i))
+      (λ l d. let r = find-look x k (i + 1) p d in
+      (pick-no (indexAt m i) x (some (rowAt m i)) (look rowIndex x (rowsOf m (i + 1) k)) (λ q. omega arith) ∙ r .0, omega (arith, r .1), omega (arith, r .2)))
+      (λ l. pick-eq (λ (r : Found). r ≡ At p → (look rowIndex x (rowsOf m i (suc k)) ≡ some (rowAt m p)) × (i ≤ p) × (p < i + suc k))
+      (indexAt m i) x (At i) (Vacant i)
+      (λ q d. let z : i ≡ p = cc in
+      (pick-yes (indexAt m i) x (some (rowAt m i)) (look rowIndex x (rowsOf m (i + 1) k)) q ∙ ap (λ (j : ℕ). some (rowAt m j)) z, omega arith, omega arith))
+      (λ q d. nope (cc)))
+      e
+
+  pub find-look-none : (x k i lo p : ℕ) → Ascending rowIndex lo (rowsOf m i k) → findFrom m x k i ≡ Vacant p → look rowIndex x (rowsOf m i k) ≡ none
+  unfolding findFrom look rowsOf
+  find-look-none x zero i lo p a e = refl
+  find-look-none x (suc k) i lo p a e =
+      pick-lt (λ (r : Found). r ≡ Vacant p → look rowIndex x (rowsOf m i (suc k)) ≡ none)
+      (indexAt m i) x (findFrom m x k (i + 1)) (pick (eqb (indexAt m i) x) (At i) (Vacant i))
+      (λ l d. pick-no (indexAt m i) x (some (rowAt m i)) (look rowIndex x (rowsOf m (i + 1) k)) (λ q. omega arith)
+      ∙ find-look-none x k (i + 1) (suc (indexAt m i)) p (a .1) d)
+      (λ l. pick-eq (λ (r : Found). r ≡ Vacant p → look rowIndex x (rowsOf m i (suc k)) ≡ none)
+      (indexAt m i) x (At i) (Vacant i)
+      (λ q d. nope (cc))
+      (λ q d. pick-no (indexAt m i) x (some (rowAt m i)) (look rowIndex x (rowsOf m (i + 1) k)) q
+      ∙ look-below rowIndex x (suc (indexAt m i)) (rowsOf m (i + 1) k) (omega arith) (a .1)))
+      e
+
+  -- ---- the lowest vacant index
+
+  pub vacant-model : (k i : ℕ) → 62 + vacantRow m k i ≡ lowestVacant rowIndex (62 + i) (rowsOf m i k)
+  unfolding vacantRow lowestVacant rowsOf
+  vacant-model zero i = refl
+  vacant-model (suc k) i =
+      let e : 62 + (i + 1) ≡ suc (62 + i) = omega arith in
+      pick-eq (λ (r : ℕ). 62 + r ≡ lowestVacant rowIndex (62 + i) (rowsOf m i (suc k))) (indexAt m i) (62 + i) (vacantRow m k (i + 1)) i
+      (λ q. vacant-model k (i + 1) ∙ ap (λ (n : ℕ). lowestVacant rowIndex n (rowsOf m (i + 1) k)) e ∙ sym (pick-yes (indexAt m i) (62 + i) _ _ q))
+      (λ q. sym (pick-no (indexAt m i) (62 + i) _ _ q))
+
+  -- ---- the lowest row that passes a test
+
+  module _ (test : ℕ → Bool) (test' : TableRow → Bool) where
+    pub search-model : (k i p : ℕ) → ((j : ℕ) → i ≤ j → j < i + k → test' (rowAt m j) ≡ test j) → lowestRow test k i ≡ Row p
+        → lowest rowIndex test' (rowsOf m i k) ≡ some (rowAt m p)
+    unfolding lowestRow lowest rowsOf
+    search-model zero i p f e = nope (cc)
+    search-model (suc k) i p f e =
+        let b = f i (omega arith) (omega arith) in
+        pick-both (λ (r : Sought). r ≡ Row p → lowest rowIndex test' (rowsOf m i (suc k)) ≡ some (rowAt m p)) (test i) (Row i) (lowestRow test k (i + 1))
+        (λ t d. let z : i ≡ p = cc in pick-true (test' (rowAt m i)) _ _ (b ∙ t) ∙ ap (λ (j : ℕ). some (rowAt m j)) z)
+        (λ t d. pick-false (test' (rowAt m i)) _ _ (b ∙ t) ∙ search-model k (i + 1) p (λ j l h. f j (omega arith) (omega arith)) d)
+        e
+
+    pub search-model-none : (k i : ℕ) → ((j : ℕ) → i ≤ j → j < i + k → test' (rowAt m j) ≡ test j) → lowestRow test k i ≡ Nothing
+        → lowest rowIndex test' (rowsOf m i k) ≡ none
+    unfolding lowestRow lowest rowsOf
+    search-model-none zero i f e = refl
+    search-model-none (suc k) i f e =
+        let b = f i (omega arith) (omega arith) in
+        pick-both (λ (r : Sought). r ≡ Nothing → lowest rowIndex test' (rowsOf m i (suc k)) ≡ none) (test i) (Row i) (lowestRow test k (i + 1))
+        (λ t d. nope (cc))
+        (λ t d. pick-false (test' (rowAt m i)) _ _ (b ∙ t) ∙ search-model-none k (i + 1) (λ j l h. f j (omega arith) (omega arith)) d)
+        e

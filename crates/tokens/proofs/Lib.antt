@@ -1,0 +1,2 @@
+-- The laws of `tokens`, for its functions' proofs.
+pub mod Digits

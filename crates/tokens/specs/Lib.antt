@@ -1,0 +1,3 @@
+-- What words say.
+pub mod Numbers
+pub mod Counts

@@ -1,2 +1,0 @@
--- The laws of `words`, for its functions' proofs.
-pub mod Digits
