@@ -8,3 +8,4 @@ pub mod Numbers
 pub mod Sameness
 pub mod Ends
 pub mod Zeros
+pub mod ZeroStores

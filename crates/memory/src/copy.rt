@@ -1,7 +1,7 @@
 // Bytes copied from slice to slice, and moved up and down inside one.
 ghost use mathlib.Core.Path.{_≡_};
 ghost use Prim.Native.Nat.{ℕ, _+_, _≤_, _<_};
-ghost use lib.ListN.{length};
+ghost use lib.ListN.{length, replicate};
 ghost use Rattle.memory.specs.Bytes.{part, overlay, moved};
 use crate::number::put_u32;
 use crate::number::put_u64;
@@ -100,5 +100,17 @@ pub fn move_up(m: &mut [u8], to: usize, from: usize, n: usize)
     while 0 < i {
         i -= 1;
         m[to + i] = m[from + i];
+    }
+}
+
+// Stores `n` zeros from the place `at` on.
+pub fn put_zeros(m: &mut [u8], at: usize, n: usize)
+    requires { ⌜ at + n ≤ length (now m) ⌝ }
+    ensures { λ _. ⌜ now (m .exit) ≡ overlay (now (m .entry)) at (replicate n 0) ⌝ }
+{
+    let mut i: usize = 0;
+    while i < n {
+        m[at + i] = 0;
+        i += 1;
     }
 }

@@ -22,6 +22,10 @@ encoderRole = 2
 abbrev pub february : ℕ
 february = 2
 
+-- head, marks, rows and text, which both ends have
+abbrev pub frontLength : ℕ
+frontLength = 7232
+
 -- the marks of a kind of part: 512 bytes each
 abbrev pub marksPlace : Part → ℕ
 marksPlace nontrailer = 64
@@ -43,10 +47,39 @@ deletesPlace = 7232
 abbrev pub deletePlace : ℕ → ℕ
 deletePlace k = 7232 + 76 * k
 
+-- a delete's two stream lists, and the streams of one
+abbrev pub nontrailerList : ℕ → ℕ
+nontrailerList k = deletePlace k + 4
+
+abbrev pub trailerList : ℕ → ℕ
+trailerList k = deletePlace k + 40
+
+abbrev pub listedPlace : ℕ → ℕ
+listedPlace at = at + 4
+
 abbrev pub referencePlace : ℕ → ℕ
 referencePlace index = 7232 + 76 * (index - 62)
 
+-- the horizon for each kind of part
+abbrev pub nontrailerReference : ℕ → ℕ
+nontrailerReference index = referencePlace index
+
+abbrev pub trailerReference : ℕ → ℕ
+trailerReference index = referencePlace index + 38
+
 -- ---- the head: role, edition, limit, held size, entry count, number of deletes, then zeros
+abbrev pub headLength : ℕ
+headLength = 64
+
+abbrev pub heldPlace : ℕ
+heldPlace = 4
+
+abbrev pub countPlace : ℕ
+countPlace = 6
+
+abbrev pub deleteCountPlace : ℕ
+deleteCountPlace = 8
+
 abbrev pub roleOf : List ℕ → ℕ
 roleOf m = getD m 0 0
 
@@ -57,20 +90,26 @@ abbrev pub limitOf : List ℕ → ℕ
 limitOf m = number 2 m 2
 
 abbrev pub heldOf : List ℕ → ℕ
-heldOf m = number 2 m 4
+heldOf m = number 2 m heldPlace
 
 abbrev pub countOf : List ℕ → ℕ
-countOf m = number 2 m 6
+countOf m = number 2 m countPlace
 
 abbrev pub deleteCount : List ℕ → ℕ
-deleteCount m = number 2 m 8
+deleteCount m = number 2 m deleteCountPlace
 
 -- ---- row i: index, text offset, name length, value length, status, zeros
+abbrev pub offsetPlace : ℕ → ℕ
+offsetPlace i = rowPlace i + 4
+
+abbrev pub statusPlace : ℕ → ℕ
+statusPlace i = rowPlace i + 10
+
 abbrev pub indexAt : List ℕ → ℕ → ℕ
 indexAt m i = number 4 m (rowPlace i)
 
 abbrev pub offsetAt : List ℕ → ℕ → ℕ
-offsetAt m i = number 2 m (rowPlace i + 4)
+offsetAt m i = number 2 m (offsetPlace i)
 
 abbrev pub nameLengthAt : List ℕ → ℕ → ℕ
 nameLengthAt m i = number 2 m (rowPlace i + 6)
@@ -80,7 +119,17 @@ valueLengthAt m i = number 2 m (rowPlace i + 8)
 
 -- at the decoder 0, or the place of the entry's delete and one; at the encoder 1 where the entry is under deletion, else 0
 abbrev pub statusAt : List ℕ → ℕ → ℕ
-statusAt m i = number 2 m (rowPlace i + 10)
+statusAt m i = number 2 m (statusPlace i)
 
 abbrev pub restAt : List ℕ → ℕ → ℕ
 restAt m i = number 4 m (rowPlace i + 12)
+
+-- ---- delete k, and the list at a place
+abbrev pub deleteIndexAt : List ℕ → ℕ → ℕ
+deleteIndexAt m k = number 4 m (deletePlace k)
+
+abbrev pub horizonAt : List ℕ → ℕ → ℕ
+horizonAt m at = number 2 m at
+
+abbrev pub listedCountAt : List ℕ → ℕ → ℕ
+listedCountAt m at = number 2 m (at + 2)

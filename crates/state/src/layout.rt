@@ -1,6 +1,7 @@
 // The places of the state memory; docs/STATE.md has them byte by byte. They are fixed once, so that none ever moves.
 ghost use mathlib.Core.Path.{_≡_};
-ghost use Prim.Native.Nat.{ℕ, _+_, _*_, _≤_};
+ghost use Prim.Native.Nat.{ℕ, _≤_};
+ghost use Rattle.state.specs.Layout.{rowPlace, deletePlace};
 
 // The bytes that each end lends. Longer memory is accepted, and what lies behind them is never touched.
 pub const DECODER_LENGTH: usize = 35_912;
@@ -45,24 +46,43 @@ pub const DELETE_PLACES: usize = 256;
 
 pub const MOST_HELD: u16 = 4_096;
 
+pub const MOST_NAME: u16 = 255;
+
+pub const MOST_VALUE: u16 = 2_047;
+
+// What an entry's size has beside its name and its value.
+pub const ENTRY_SIZE: usize = 32;
+
 pub const FIRST_INDEX: u32 = 62;
 
 pub const LAST_INDEX: u32 = 134_217_727;
 
 pub const LAST_SENT_INDEX: u32 = 189;
 
-// Where row `i` stands: index 4, text offset 2, name length 2, value length 2, status 2, zeros 4.
+// What a stream list may hold, and the bytes of its places for streams.
+pub const MOST_HORIZON: u16 = 4_096;
+
+pub const MOST_LISTED: usize = 16;
+
+pub const LISTED_BYTES: usize = 32;
+
+// The bytes of a row, of a delete, and of what an encoder keeps for an index.
+pub const ROW_LENGTH: usize = 16;
+
+pub const DELETE_LENGTH: usize = 76;
+
+// Where row `i` stands.
 pub fn row_place(i: usize) -> usize
     requires { ⌜ i ≤ 256 ⌝ }
-    ensures { λ r. ⌜ r ≡ 1088 + 16 * i ⌝ }
+    ensures { λ r. ⌜ r ≡ rowPlace i ⌝ }
 {
-    ROWS + 16 * i
+    ROWS + ROW_LENGTH * i
 }
 
-// Where delete `k` stands: index 4, and two lists of horizon 2, count 2 and 16 streams of 2.
+// Where delete `k` stands.
 pub fn delete_place(k: usize) -> usize
     requires { ⌜ k ≤ 256 ⌝ }
-    ensures { λ r. ⌜ r ≡ 7232 + 76 * k ⌝ }
+    ensures { λ r. ⌜ r ≡ deletePlace k ⌝ }
 {
-    DELETES + 76 * k
+    DELETES + DELETE_LENGTH * k
 }
