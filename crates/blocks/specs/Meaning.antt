@@ -5,7 +5,7 @@ use mathlib.Core.List.{List, [], _∷_, _++_, List·Memᴰ}
 use lib.Dec.{leb}
 use Rattle.memory.specs.Choice.{pick}
 use Rattle.wire.specs.Name.{indexed as by-index, literal as by-bytes}
-use Rattle.statics.specs.Table.{Entry, entryAt}
+use Rattle.statics.specs.Table.{lastStatic, Entry, entryAt}
 use Rattle.fields.specs.Form.{Field}
 use Rattle.blocks.specs.Representation.{Representation, indexed, literal}
 
@@ -16,7 +16,7 @@ pub data Slot : Type 0 where
 
 -- "Indexes 1 to 61 are static."
 unfoldable pub isStatic : ℕ → Bool
-isStatic i = pick (leb 1 i) (leb i 61) false
+isStatic i = pick (leb 1 i) (leb i lastStatic) false
 
 -- an index that is not static is the header table's
 unfoldable pub withStatics : (ℕ → Slot) → ℕ → Slot

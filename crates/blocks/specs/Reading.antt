@@ -71,9 +71,13 @@ blockFrom (suc f) s at before =
     (onRepresentation refused (readRepresentation s at) (λ p next. blockFrom f s next (before ++ (representationOf s p ∷ []))))
     (block before)
 
--- "Blocks, at most 16,384 bytes": a longer one is 13 before it is read. "An empty block is a block with no fields."
+-- "Blocks, at most 16,384 bytes"
+abbrev pub blockLimit : ℕ
+blockLimit = 16384
+
+-- a longer one is 13 before it is read. "An empty block is a block with no fields."
 unfoldable pub readBlock : List ℕ → BlockRead
-readBlock s = need (leb (length s) 16384) (refused too-long) (blockFrom (length s) s 0 [])
+readBlock s = need (leb (length s) blockLimit) (refused too-long) (blockFrom (length s) s 0 [])
 
 abbrev pub blockAnswer : BlockRead → Answer
 blockAnswer (block rs) = done (length rs) 0

@@ -3,7 +3,7 @@ use Prim.Native.Nat.{ℕ, _*_, _<_, _≤_}
 use mathlib.Core.List.{List, [], _∷_, _++_}
 use lib.ListN.{length}
 use Rattle.integers.specs.Integer.{largest, intWire}
-use Rattle.wire.specs.Text.{stringWire}
+use Rattle.wire.specs.Text.{valueLimit, stringWire}
 use Rattle.wire.specs.Name.{Name, FineName, nameWire}
 
 pub data Representation : Type 0 where
@@ -15,7 +15,7 @@ pub data Representation : Type 0 where
 -- what can be said on the wire
 abbrev pub FineRepresentation : Representation → Type 0
 FineRepresentation (indexed i) = (0 < i) × (i ≤ largest)
-FineRepresentation (literal flag name value) = (flag < 2) × FineName name × (length value ≤ 2047)
+FineRepresentation (literal flag name value) = (flag < 2) × FineName name × (length value ≤ valueLimit)
 
 abbrev pub AllFine : List Representation → Type 0
 AllFine [] = Unit {0}

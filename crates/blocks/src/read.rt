@@ -3,6 +3,7 @@ ghost use mathlib.Core.Path.{_≡_};
 ghost use Prim.Native.Nat.{ℕ, _<_};
 ghost use lib.ListN.{length};
 ghost use Rattle.blocks.specs.Reading.{representationAnswer, flagOf, readIndexed, readLiteral, readRepresentation, readBlock, blockAnswer};
+use integers::answer::DONE;
 use integers::answer::NOT_ALLOWED;
 use integers::answer::TOO_LONG;
 use integers::answer::TRUNCATED;
@@ -43,7 +44,7 @@ impl RepresentationRead {
         ensures { λ r. ⌜ r ≡ representationAnswer self .number ⌝ }
     {
         match self {
-            RepresentationRead::Found(_, _) => 0,
+            RepresentationRead::Found(_, _) => DONE,
             RepresentationRead::Refused(number) => number,
         }
     }
@@ -60,7 +61,7 @@ fn read_indexed(s: &[u8], at: usize) -> RepresentationRead
     if value == 0 {
         return RepresentationRead::Refused(NOT_ALLOWED);
     }
-    RepresentationRead::Found(RepresentationPlace::Indexed(TableIndex { value }), next)
+    RepresentationRead::Found(RepresentationPlace::Indexed(TableIndex::new(value)), next)
 }
 
 // The N bit of a literal's first byte.
@@ -70,7 +71,7 @@ pub fn flag_of(b: u8) -> u8
     if b < NEVER_STORE { 0 } else { 1 }
 }
 
-fn read_literal(s: &[u8], at: usize) -> RepresentationRead
+pub fn read_literal(s: &[u8], at: usize) -> RepresentationRead
     requires { ⌜ at < length (now s) ⌝ }
     ensures { λ r. ⌜ r ≡ readLiteral (now (s .entry)) at ⌝ }
 {
@@ -114,5 +115,5 @@ pub fn check_block(s: &[u8]) -> u8
         };
         at = next;
     }
-    0
+    DONE
 }

@@ -8,7 +8,8 @@ use crate::read::INDEXED;
 use crate::read::RepresentationPlace;
 use crate::read::RepresentationRead;
 use crate::read::flag_of;
-use crate::read::read_representation;
+use crate::read::read_literal;
+use integers::byte::wide;
 use integers::integer::ShortInt;
 use integers::integer::WireInt;
 use integers::number::TableIndex;
@@ -47,13 +48,6 @@ const NAME_SPAN: u8 = 1 << WireInt::PREFIX6;
 // The bytes of a literal beside its strings: the name's index, and both lengths.
 const LITERAL_BYTES: usize = 3;
 
-// A byte as a number.
-fn wide(x: u8) -> u32
-    ensures { λ r. ⌜ (r ≡ x) × (r < 256) ⌝ }
-{
-    x as u32
-}
-
 // The length of a string, if it takes this byte.
 fn short_length(b: u8) -> ShortLength
     ensures { λ r. ⌜ r ≡ shortLength b ⌝ }
@@ -77,7 +71,7 @@ pub fn short_index(s: &[u8], at: usize) -> ShortIndex
     if value == WireInt::ONES7 {
         return ShortIndex::Other;
     }
-    ShortIndex::Found(TableIndex { value }, at + 1)
+    ShortIndex::Found(TableIndex::new(value), at + 1)
 }
 
 // The literal at the place `at`, if its name is a string. One test of the bytes that are left serves both of a string's, so `short_string` is not asked.
@@ -125,20 +119,17 @@ pub fn short_named(s: &[u8], at: usize) -> ShortNamed
     let ShortString::Found(place, next) = v else {
         return ShortNamed::Other;
     };
-    ShortNamed::Found(TableIndex { value }, place, next)
+    ShortNamed::Found(TableIndex::new(value), place, next)
 }
 
-// The representation at the place `at`: the general reader, after a short literal whose name is an entry's.
-pub fn read_next(s: &[u8], at: usize) -> RepresentationRead
-    requires { ⌜ at < length (now s) ⌝ }
+// The literal at the place `at`: the general reader, after a short one whose name is an entry's.
+pub fn read_literal_at(s: &[u8], at: usize) -> RepresentationRead
+    requires { ⌜ (at < length (now s)) × (getD (now s) at 0 < 128) ⌝ }
     ensures { λ r. ⌜ r ≡ readRepresentation (now (s .entry)) at ⌝ }
 {
-    if INDEXED <= s[at] {
-        return read_representation(s, at);
-    }
     let n = short_named(s, at);
     let ShortNamed::Found(index, value, next) = n else {
-        return read_representation(s, at);
+        return read_literal(s, at);
     };
     let flag = flag_of(s[at]);
     let place = RepresentationPlace::Literal(flag, NamePlace::Index(index), value);

@@ -5,14 +5,17 @@ ghost use lib.ListN.{length};
 ghost use Rattle.memory.specs.Bytes.{overlay};
 ghost use Rattle.wire.specs.Name.{Name};
 ghost use Rattle.blocks.specs.Representation.{Representation, FineRepresentation, representationWire};
+use crate::read;
 use integers::integer::WireInt;
 use integers::number::TableIndex;
 use wire::name::write_name_index;
 use wire::name::write_name_text;
 use wire::text::write_string;
 
-// The bit before an index.
-const INDEXED: u32 = 128;
+// The bit before an index, and the N bit of a literal, as a reader finds them.
+const INDEXED: u32 = read::INDEXED as u32;
+
+const NEVER_STORE: u32 = read::NEVER_STORE as u32;
 
 // A field of the tables by its index.
 pub fn write_indexed(index: TableIndex, out: &mut [u8], at: usize) -> usize
@@ -38,7 +41,7 @@ pub fn write_literal_index(
     ensures { λ r. ⌜ r ≡ at + length (representationWire (Representation.literal flag (Name.indexed (name .value)) (now (value .entry)))) ⌝ }
     ensures { λ _. ⌜ now (out .exit) ≡ overlay (now (out .entry)) at (representationWire (Representation.literal flag (Name.indexed (name .value)) (now (value .entry)))) ⌝ }
 {
-    let next = write_name_index(name, out, at, WireInt::PREFIX6, (flag as u32) * 64);
+    let next = write_name_index(name, out, at, WireInt::PREFIX6, (flag as u32) * NEVER_STORE);
     write_string(value, out, next)
 }
 
@@ -49,6 +52,6 @@ pub fn write_literal_text(flag: u8, name: &[u8], value: &[u8], out: &mut [u8], a
     ensures { λ r. ⌜ r ≡ at + length (representationWire (Representation.literal flag (Name.literal (now (name .entry))) (now (value .entry)))) ⌝ }
     ensures { λ _. ⌜ now (out .exit) ≡ overlay (now (out .entry)) at (representationWire (Representation.literal flag (Name.literal (now (name .entry))) (now (value .entry)))) ⌝ }
 {
-    let next = write_name_text(name, out, at, WireInt::PREFIX6, (flag as u32) * 64);
+    let next = write_name_text(name, out, at, WireInt::PREFIX6, (flag as u32) * NEVER_STORE);
     write_string(value, out, next)
 }

@@ -8,6 +8,7 @@ use lib.ListN.{length}
 use borrow.Author.Tests.{le-leb, lt-leb, lt-ltb, le-ltb}
 use Rattle.memory.proofs.Order.{need-true, need-false}
 use Rattle.integers.specs.Answers.{done, refusal, over-limit, out-of-turn, no-room, no-state}
+use Rattle.integers.specs.declared.number.StreamNumber.{StreamNumber}
 use Rattle.marks.specs.Marks.{cleared}
 use Rattle.model.specs.Parts.{nontrailer, trailer, streams}
 use Rattle.model.specs.Decoder.{closeParts}
@@ -47,8 +48,8 @@ module _ (m : List ℕ) (s : ℕ) where
     unfolding endedCall closeParts
     ended-above h = same (need-true _ _ _ (st .forms)) (stays m st _ out-of-turn (need-false _ _ _ (le-ltb s streams h)))
 
-    pub ended-done : s < streams
-        → Leaves (endedCall m s) (done 0 0) (cleared (cleared m (marksPlace nontrailer) s) (marksPlace trailer) s)
+    pub ended-done : (x : StreamNumber) → x ≡ record { value = s } → s < streams
+        → Leaves (endedCall m s) (done 0 0) (cleared (cleared m (marksPlace nontrailer) (x .value)) (marksPlace trailer) (x .value))
     unfolding endedCall closeParts
-    ended-done h =
-        same (need-true _ _ _ (st .forms)) (steps m _ _ 0 0 _ (need-true _ _ _ (lt-ltb s streams h)) (changes m st .end s h))
+    ended-done x e h =
+        rw e (same (need-true _ _ _ (st .forms)) (steps m _ _ 0 0 _ (need-true _ _ _ (lt-ltb s streams h)) (changes m st .end s h)))

@@ -18,7 +18,9 @@ use Rattle.state.specs.Layout.{statusAt}
 use Rattle.state.specs.Front.{marksOf}
 use Rattle.state.specs.DecoderState.{deleteAt, decoderOf}
 use Rattle.state.specs.Forms.{formsDecoder}
-use Rattle.parts.specs.Hold.{GoodDelete}
+use Rattle.parts.specs.Hold.{GoodDelete, lowestCase, lowestTold}
+use Rattle.parts.specs.declared.hold.Lowest.{Lowest}
+use Rattle.parts.proofs.Telling.{told-back}
 use Rattle.table_laws.specs.DecoderChanges.{found, missing}
 use Rattle.reply.specs.Result.{Result, stepped}
 use Rattle.decoder.specs.Calls.{holdCall}
@@ -50,8 +52,11 @@ lowest-few marks d s (suc n) =
 pub count-few : (marks : Marks) (d : Delete) (count : ℕ) → count ≡ openBelow marks d streams → count ≤ 8192
 count-few marks d count e = omega (arith, open-few marks d streams)
 
-pub lowest-low : (marks : Marks) (d : Delete) (lowest : ℕ) → lowest ≡ lowestOpen marks d 0 streams → lowest ≤ 4096
-lowest-low marks d lowest e = omega (arith, lowest-few marks d 0 streams)
+pub lowest-low : (marks : Marks) (d : Delete) → lowestOpen marks d 0 streams ≤ 4096
+lowest-low marks d = omega (arith, lowest-few marks d 0 streams)
+
+pub lowest-told : (marks : Marks) (d : Delete) (x : Lowest) → x ≡ lowestCase (lowestOpen marks d 0 streams) → lowestTold x ≡ lowestOpen marks d 0 streams
+lowest-told marks d x e = ap lowestTold e ∙ told-back (lowestOpen marks d 0 streams) (lowest-low marks d)
 
 -- ---- each way through the call
 

@@ -18,12 +18,10 @@ pub fn ended(m: &mut [u8], stream: u64) -> Reply
     if !forms_decoder(m) {
         return Reply::refused(NO_STATE);
     }
-    if 4_095 < stream {
+    if (StreamNumber::LAST as u64) < stream {
         return Reply::refused(OUT_OF_TURN);
     }
-    let s = StreamNumber {
-        value: stream as u16,
-    };
+    let s = StreamNumber::new(stream as u16);
     clear(m, NONTRAILER_MARKS, s);
     clear(m, TRAILER_MARKS, s);
     Reply::done(0, 0)

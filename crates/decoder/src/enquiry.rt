@@ -7,12 +7,11 @@ use integers::answer::NOT_ALLOWED;
 use integers::answer::NOT_UNDER_DELETION;
 use integers::answer::VACANT;
 use integers::number::TableIndex;
-use memory::number::u16_at;
 use parts::hold::hold_count;
 use parts::hold::hold_lowest;
 use reply::Reply;
 use state::decoder::forms_decoder;
-use state::layout::row_place;
+use state::row::status_at;
 use table_search::find::Found;
 use table_search::find::find;
 
@@ -22,26 +21,21 @@ pub fn enquire(m: &[u8], index: u64) -> Reply
     if !forms_decoder(m) {
         return Reply::refused(NO_STATE);
     }
-    if index < 62 {
+    if index < (TableIndex::FIRST as u64) {
         return Reply::refused(NOT_ALLOWED);
     }
-    if 134_217_727 < index {
+    if (TableIndex::LAST as u64) < index {
         return Reply::refused(NOT_ALLOWED);
     }
-    let f = find(
-        m,
-        TableIndex {
-            value: index as u32,
-        },
-    );
+    let f = find(m, TableIndex::new(index as u32));
     let Found::At(place) = f else {
         return Reply::refused(VACANT);
     };
-    let status = u16_at(m, row_place(place) + 10) as usize;
+    let status = status_at(m, place) as usize;
     if status == 0 {
         return Reply::refused(NOT_UNDER_DELETION);
     }
-    let count = hold_count(m, status - 1);
-    let lowest = hold_lowest(m, status - 1);
-    Reply::done(count as u32, lowest as u32)
+    let count = hold_count(m, status - 1) as u32;
+    let lowest = hold_lowest(m, status - 1).told();
+    Reply::done(count, lowest)
 }

@@ -7,12 +7,13 @@ use integers::answer::OVER_LIMIT;
 use reply::Reply;
 use state::layout::DECODER;
 use state::layout::DECODER_LENGTH;
+use state::layout::MOST_HELD;
 
 pub fn start(m: &mut [u8], limit: u64) -> Reply
     ensures { λ r. ⌜ answerOf r ≡ startCall (now (m .entry)) limit .answer ⌝ }
     ensures { λ _. ⌜ now (m .exit) ≡ startCall (now (m .entry)) limit .memory ⌝ }
 {
-    if 4_096 < limit {
+    if (MOST_HELD as u64) < limit {
         return Reply::refused(OVER_LIMIT);
     }
     if m.len() < DECODER_LENGTH {

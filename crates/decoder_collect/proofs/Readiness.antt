@@ -1,15 +1,19 @@
--- The lowest stream with an unfinished named part is 4,096 exactly where the delete is ready.
+-- There is no stream with an unfinished named part exactly where the delete is ready.
 -- By induction over the count of streams: an open part stops the search at its stream or below, and nothing else stops it.
-use mathlib.Core.Path.{_≡_, sym, ap, ap₂, _∙_}
+use mathlib.Core.Path.{_≡_, refl, ap, ap₂, _∙_}
 use mathlib.Core.Logic.{⊎-elim}
 use Prim.Native.Nat.{ℕ, zero, suc, _+_, _≤_, _<_}
 use native.Mathlib.Omega.{arith}
 use mathlib.Core.Bool.{Bool, true, false, _||_, or-true}
-use lib.Dec.{eqb}
-use borrow.Author.Tests.{eq-eqb, ne-eqb}
 use Rattle.memory.proofs.Order.{split, either, pick-both, pick-false, not-both}
+use Rattle.integers.specs.declared.number.StreamNumber.{StreamNumber}
 use Rattle.model.specs.Parts.{Part, nontrailer, trailer, Marks, Delete, namesPart, isOpen, lowestOpen, streams, isReady}
 use Rattle.model_laws.proofs.Marks.{OpenPart, ready-marked, ready-or}
+use Rattle.model_laws.proofs.Tables.{nope}
+use Rattle.parts.specs.Hold.{lowestCase}
+use Rattle.parts.specs.declared.hold.Lowest.{Lowest}
+use Rattle.parts.specs.declared.hold.Lowest.the-variants.{Stream, Nothing}
+use Rattle.parts.proofs.Telling.{stream-case, no-case}
 
 module _ (marks : Marks) (d : Delete) where
   abbrev openAt : ℕ → Bool
@@ -48,13 +52,25 @@ module _ (marks : Marks) (d : Delete) where
   unfolding isOpen
   part-open o = rw (o .named, o .unmarked)
 
-  pub lowest-ready : eqb (lowestOpen marks d 0 streams) streams ≡ isReady marks d
-  lowest-ready =
-      either (isReady marks d)
-      (λ r. eq-eqb (lowestOpen marks d 0 streams) streams (lowest-past streams 0 (λ t p h. none-open r t p (omega arith))) ∙ sym r)
-      (λ r. ⊎-elim (λ q. not-both (isReady marks d) q r)
+  -- ---- so the stream that is found, or that none is, says which
+
+  abbrev Found : Lowest
+  Found = lowestCase (lowestOpen marks d 0 streams)
+
+  ready-case : isReady marks d ≡ true → Found ≡ Nothing
+  ready-case r = no-case (lowestOpen marks d 0 streams) (lowest-past streams 0 (λ t p h. none-open r t p (omega arith)))
+
+  held-case : isReady marks d ≡ false → Found ≡ Stream (record { value = lowestOpen marks d 0 streams })
+  held-case r =
+      ⊎-elim (λ q. not-both (isReady marks d) q r)
       (λ (o : OpenPart marks d streams).
       let low = o .low in
       let stop = lowest-stops streams 0 (o .stream) (o .part) (omega arith) (omega arith) (part-open o) in
-      ne-eqb (lowestOpen marks d 0 streams) streams (λ e. omega arith) ∙ sym r)
-      (ready-or marks d))
+      stream-case (record { value = lowestOpen marks d 0 streams }) (lowestOpen marks d 0 streams) refl (omega arith))
+      (ready-or marks d)
+
+  pub none-holds : Found ≡ Nothing → isReady marks d ≡ true
+  none-holds e = either (isReady marks d) (λ r. r) (λ r. let f = held-case r in nope (cc))
+
+  pub one-holds : (x : StreamNumber) → Found ≡ Stream x → isReady marks d ≡ false
+  one-holds x e = either (isReady marks d) (λ r. let f = ready-case r in nope (cc)) (λ r. r)

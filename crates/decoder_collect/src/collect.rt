@@ -1,8 +1,7 @@
 // The collect call: 17; with none ready it is done, writes 0 bytes and changes nothing; 12 last.
 ghost use mathlib.Core.Path.{_≡_};
 ghost use mathlib.Core.Bool.{true};
-ghost use Prim.Native.Nat.{ℕ, _≤_, _<_};
-ghost use lib.ListN.{length};
+ghost use Prim.Native.Nat.{_<_};
 ghost use Rattle.state.specs.Layout.{countOf};
 ghost use Rattle.state.specs.Forms.{formsDecoder};
 ghost use Rattle.table_search.specs.Search.{lowestRow};
@@ -14,15 +13,14 @@ use instructions::write::write_acknowledgement;
 use integers::answer::NO_ROOM;
 use integers::answer::NO_STATE;
 use integers::number::TableIndex;
-use memory::number::u16_at;
-use memory::number::u32_at;
-use parts::hold::NO_STREAM;
+use parts::hold::Lowest;
 use parts::hold::hold_lowest;
 use reply::Reply;
 use sizes::acknowledge_size;
 use state::decoder::forms_decoder;
-use state::layout::COUNT;
-use state::layout::row_place;
+use state::head::count_of;
+use state::row::index_at;
+use state::row::status_at;
 use table::remove::remove;
 use table_search::names::Sought;
 
@@ -31,11 +29,14 @@ fn is_ready(m: &[u8], i: usize) -> bool
     requires { ⌜ (i < countOf (now m)) × (formsDecoder (now m) ≡ true) ⌝ }
     ensures { λ r. ⌜ r ≡ readyAt (now (m .entry)) i ⌝ }
 {
-    let status = u16_at(m, row_place(i) + 10) as usize;
+    let status = status_at(m, i) as usize;
     if status == 0 {
         return false;
     }
-    hold_lowest(m, status - 1) == NO_STREAM
+    match hold_lowest(m, status - 1) {
+        Lowest::Stream(_) => false,
+        Lowest::Nothing => true,
+    }
 }
 
 // The ready entry of lowest index.
@@ -43,7 +44,7 @@ fn find_ready(m: &[u8]) -> Sought
     requires { ⌜ formsDecoder (now m) ≡ true ⌝ }
     ensures { λ r. ⌜ r ≡ lowestRow (readyAt (now (m .entry))) (countOf (now (m .entry))) 0 ⌝ }
 {
-    let count = u16_at(m, COUNT) as usize;
+    let count = count_of(m) as usize;
     let mut i: usize = 0;
     while i < count {
         if is_ready(m, i) {
@@ -62,12 +63,9 @@ fn free(m: &mut [u8], place: usize, out: &mut [u8]) -> Reply
     ensures { λ _. ⌜ now (m .exit) ≡ collectCall (now (m .entry)) (now (out .entry)) .memory ⌝ }
     ensures { λ _. ⌜ now (out .exit) ≡ collectCall (now (m .entry)) (now (out .entry)) .output ⌝ }
 {
-    let at = row_place(place);
-    let index = TableIndex {
-        value: u32_at(m, at),
-    };
-    let status = u16_at(m, at + 10) as usize;
-    let n = acknowledge_size(index.value);
+    let index = TableIndex::new(index_at(m, place));
+    let status = status_at(m, place) as usize;
+    let n = acknowledge_size(index);
     if out.len() < n {
         return Reply::refused(NO_ROOM);
     }

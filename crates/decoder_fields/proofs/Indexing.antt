@@ -1,12 +1,16 @@
--- An index told apart from what else is read: what each answer says of what was read, and that no index is read below 128.
+-- An index told apart from what else is read: what each answer says of what was read. Below 128 no index is read, and from there on nothing else.
 -- By the cases of what is read.
 use Prim.Native.Nat.{ℕ, _≤_, _<_}
 use mathlib.Core.Path.{_≡_, refl, sym, ap, subst, _∙_}
+use native.Mathlib.Omega.{arith}
 use mathlib.Core.List.{List}
 use lib.ListN.{length, getD}
 use lib.Dec.{leb}
 use borrow.Author.Tests.{le-leb, lt-leb}
 use Rattle.memory.proofs.Order.{split, pick-true, pick-false}
+use Rattle.integers.specs.Integer.{readInt}
+use Rattle.integers.specs.declared.integer.IntRead.{IntRead}
+use Rattle.integers.specs.declared.integer.IntRead.the-variants.{Value, Refused as IntRefused}
 use Rattle.integers.specs.declared.number.TableIndex.{TableIndex}
 use Rattle.wire.specs.Text.{readString}
 use Rattle.wire.specs.Name.{readName}
@@ -15,12 +19,21 @@ use Rattle.wire.specs.declared.text.StringRead.the-variants.{Found as StringFou
 use Rattle.wire.specs.declared.name.NamePlace.{NamePlace}
 use Rattle.wire.specs.declared.name.NameRead.{NameRead}
 use Rattle.wire.specs.declared.name.NameRead.the-variants.{Found as NameFound, Refused as NameRefused}
-use Rattle.blocks.specs.Reading.{readLiteral, readRepresentation}
+use Rattle.blocks.specs.Reading.{readIndexed, readLiteral, readRepresentation}
 use Rattle.blocks.specs.declared.read.RepresentationPlace.{RepresentationPlace}
 use Rattle.blocks.specs.declared.read.RepresentationPlace.the-variants.{Indexed, Literal}
 use Rattle.blocks.specs.declared.read.RepresentationRead.{RepresentationRead}
 use Rattle.blocks.specs.declared.read.RepresentationRead.the-variants.{Found, Refused}
-use Rattle.blocks.proofs.Equations.{literal-name-refused, literal-value-refused, literal-found, representation-literal}
+use Rattle.blocks.proofs.Equations.{
+  indexed-refused,
+  indexed-zero,
+  indexed-found,
+  literal-name-refused,
+  literal-value-refused,
+  literal-found,
+  representation-literal,
+  representation-indexed,
+}
 use Rattle.blocks.specs.declared.short.ShortIndex.{ShortIndex}
 use Rattle.blocks.specs.declared.short.ShortIndex.the-variants.{Found as ShortFound, Other as NoIndex}
 use Rattle.model_laws.proofs.Tables.{nope}
@@ -53,6 +66,20 @@ module _ (s : List ℕ) (at : ℕ) where
 
   pub low-other : at < length s → getD s at 0 < 128 → Other ≡ indexIn (readRepresentation s at)
   low-other h k = sym (ap indexIn (representation-literal s at h k) ∙ literal-name _ refl)
+
+  -- from 128 on an index is read, or it is refused
+  index-read : (r : IntRead) → r ≡ readInt 7 s at → Other ≡ indexIn (readIndexed s at) → (number : ℕ) × (readIndexed s at ≡ Refused number)
+  index-read (IntRefused number) e d = (number, indexed-refused s at _ e number refl)
+  index-read (Value n next) e d =
+      split 0 (n .value)
+      (λ h. let f : Other ≡ Entry (record { value = n .value }) next = d ∙ ap indexIn (indexed-found s at _ e n next refl (λ z. omega arith)) in nope (cc))
+      (λ h. (5, indexed-zero s at _ e n next refl (omega arith)))
+
+  pub high-other : at < length s → 128 ≤ getD s at 0 → Other ≡ indexIn (readRepresentation s at) → (number : ℕ) × (readRepresentation s at ≡ Refused number)
+  high-other h k d =
+      let e = representation-indexed s at h k in
+      let r = index-read _ refl (d ∙ ap indexIn e) in
+      (r .0, e ∙ r .1)
 
 -- a short index of the header table
 pub row-static : {r : ShortIndex} {i : TableIndex} {next : ℕ} → r ≡ ShortFound i next → i .value ≤ 61 → rowIndex r ≡ NoIndex

@@ -22,13 +22,9 @@ use blocks::read::flag_of;
 use blocks::read::read_representation;
 use blocks::short::ShortIndex;
 use blocks::short::ShortLiteral;
-use blocks::short::read_next;
+use blocks::short::read_literal_at;
 use blocks::short::short_index;
 use blocks::short::short_literal;
-use decoder_survey::entry::place_of;
-use decoder_survey::entry::row_name;
-use decoder_survey::entry::row_of;
-use decoder_survey::entry::row_value;
 use fields::write::write_field;
 use fields::write::write_length;
 use fields::write::write_text;
@@ -37,7 +33,11 @@ use memory::copy::copy;
 use statics::table::LAST;
 use statics::table::static_text;
 use table_search::find::Found;
+use table_search::find::find;
+use table_search::place::locate;
 use table_search::place::name_at;
+use table_search::place::row_name;
+use table_search::place::row_value;
 use table_search::place::value_at;
 use wire::name::NamePlace;
 use wire::text::StringPlace;
@@ -73,7 +73,7 @@ fn write_indexed<'a>(
     ensures { λ r. ⌜ r ≡ at + length (fieldBytes (fieldMeant (now (m .entry)) (Representation.indexed (index .value)))) ⌝ }
     ensures { λ _. ⌜ now (out .exit) ≡ overlay (now (out .entry)) at (fieldBytes (fieldMeant (now (m .entry)) (Representation.indexed (index .value)))) ⌝ }
 {
-    let place = place_of(m, index);
+    let place = locate(m, index);
     let name = name_at(text, m, place);
     let value = value_at(text, m, place);
     write_field(0, name, value, out, at)
@@ -97,7 +97,7 @@ fn write_named<'a>(
     ensures { λ r. ⌜ r ≡ at + length (fieldBytes (namedAt (now (m .entry)) (now (s .entry)) flag index value)) ⌝ }
     ensures { λ _. ⌜ now (out .exit) ≡ overlay (now (out .entry)) at (fieldBytes (namedAt (now (m .entry)) (now (s .entry)) flag index value)) ⌝ }
 {
-    let place = place_of(m, index);
+    let place = locate(m, index);
     out[at] = flag;
     let name = name_at(text, m, place);
     let next = write_text(name, out, at + 1);
@@ -164,47 +164,16 @@ fn read_any_index(s: &[u8], at: usize) -> IndexedRead
     IndexedRead::Entry(index, next)
 }
 
-// The same. Most are short, and for these no reader is asked, nor for a literal.
+// The same. Most are short, and for these no reader is asked.
 fn read_index(s: &[u8], at: usize) -> IndexedRead
-    requires { ⌜ at < length (now s) ⌝ }
+    requires { ⌜ (at < length (now s)) × (128 ≤ getD (now s) at 0) ⌝ }
     ensures { λ r. ⌜ r ≡ indexIn (readRepresentation (now (s .entry)) at) ⌝ }
 {
-    if s[at] < INDEXED {
-        return IndexedRead::Other;
-    }
     let i = short_index(s, at);
     let ShortIndex::Found(index, next) = i else {
         return read_any_index(s, at);
     };
     IndexedRead::Entry(index, next)
-}
-
-// All fields from a place of the block on, whatever their form. Only here the static text is made, once.
-// An index goes its own way, past `read_next`, whose answer is built in memory. `write_indexed` is called in this one place: a second makes the code slower.
-fn write_rest(m: &[u8], s: &[u8], from: usize, out: &mut [u8], start: usize)
-    requires { ⌜ Stands (now m) ⌝ }
-    requires { ⌜ Unwritten (now m) (now s) (now out) from start ⌝ }
-    ensures { λ _. ⌜ now (out .exit) ≡ overlay (now (out .entry)) start (listBytes (meaningFrom (now (m .entry)) (now (s .entry)) from)) ⌝ }
-{
-    let text = static_text();
-    let mut to: usize = start;
-    let mut at: usize = from;
-    while at < s.len() {
-        match read_index(s, at) {
-            IndexedRead::Entry(index, next) => {
-                to = write_indexed(&text, m, index, out, to);
-                at = next;
-            }
-            IndexedRead::Other => {
-                let r = read_next(s, at);
-                let RepresentationRead::Found(place, next) = r else {
-                    return;
-                };
-                to = write_literal_place(&text, m, s, place, out, to);
-                at = next;
-            }
-        }
-    }
 }
 
 // A short literal at the place `at`, up to the place `next`: from its second byte on it stands in the block as in the list.
@@ -218,6 +187,46 @@ fn write_short(s: &[u8], at: usize, next: usize, out: &mut [u8], to: usize) -> u
     out[to] = flag;
     let from = at + 1;
     copy(&s[from..next], out, to + 1)
+}
+
+// All fields from a place of the block on, whatever their form. Only here the static text is made, once: 86 instructions, which a block that names no static
+// entry is spared. A block does not go back to `write_fields` from here: the text would be made again at the next static entry, and a row would gain two
+// instructions (13 rows behind a static index take 2,432, before it 2,408). A short literal gains more, so it is looked for here too: 13 of them behind a static
+// index take 2,296 instructions for 3,733, a field 201 for 235 (browser requests, literal), though 171 for 168 where all are indexes (warm).
+// An index goes its own way, past `read_literal_at`, whose answer is built in memory. `write_indexed` is called in this one place: a second makes the code slower.
+fn write_rest(m: &[u8], s: &[u8], from: usize, out: &mut [u8], start: usize)
+    requires { ⌜ Stands (now m) ⌝ }
+    requires { ⌜ Unwritten (now m) (now s) (now out) from start ⌝ }
+    ensures { λ _. ⌜ now (out .exit) ≡ overlay (now (out .entry)) start (listBytes (meaningFrom (now (m .entry)) (now (s .entry)) from)) ⌝ }
+{
+    let text = static_text();
+    let mut to: usize = start;
+    let mut at: usize = from;
+    while at < s.len() {
+        if INDEXED <= s[at] {
+            let i = read_index(s, at);
+            let IndexedRead::Entry(index, next) = i else {
+                return;
+            };
+            to = write_indexed(&text, m, index, out, to);
+            at = next;
+        } else {
+            match short_literal(s, at) {
+                ShortLiteral::Ends(next) => {
+                    to = write_short(s, at, next, out, to);
+                    at = next;
+                }
+                ShortLiteral::Other => {
+                    let r = read_literal_at(s, at);
+                    let RepresentationRead::Found(place, next) = r else {
+                        return;
+                    };
+                    to = write_literal_place(&text, m, s, place, out, to);
+                    at = next;
+                }
+            }
+        }
+    }
 }
 
 // The field of row `i`.
@@ -243,7 +252,7 @@ fn write_dynamic(m: &[u8], index: TableIndex, out: &mut [u8], to: usize) -> usiz
     ensures { λ r. ⌜ r ≡ to + length (fieldBytes (fieldMeant (now (m .entry)) (Representation.indexed (index .value)))) ⌝ }
     ensures { λ _. ⌜ now (out .exit) ≡ overlay (now (out .entry)) to (fieldBytes (fieldMeant (now (m .entry)) (Representation.indexed (index .value)))) ⌝ }
 {
-    let f = row_of(m, index);
+    let f = find(m, index);
     let Found::At(i) = f else {
         return to;
     };

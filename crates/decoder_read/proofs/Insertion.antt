@@ -41,15 +41,15 @@ module _ (m : List ℕ) (x entry place : ℕ) where
     unfolding judged
     judged-vacant = ap (judgeFound m entry) e
 
-    pub judged-over : limitOf m < heldOf m + entry → judged m x entry ≡ Refused over-limit
-    judged-over h = judged-vacant ∙ need-false _ _ _ (lt-leb (heldOf m + entry) (limitOf m) h)
+    pub judged-over : leb (heldOf m + entry) (limitOf m) ≡ false → judged m x entry ≡ Refused over-limit
+    judged-over h = judged-vacant ∙ need-false _ _ _ h
 
-    module _ (room : heldOf m + entry ≤ limitOf m) where
+    module _ (room : leb (heldOf m + entry) (limitOf m) ≡ true) where
       pub judged-full : 128 ≤ countOf m → judged m x entry ≡ Refused full
-      judged-full h = judged-vacant ∙ need-true _ _ _ (le-leb (heldOf m + entry) (limitOf m) room) ∙ need-false _ _ _ (le-ltb (countOf m) 128 h)
+      judged-full h = judged-vacant ∙ need-true _ _ _ room ∙ need-false _ _ _ (le-ltb (countOf m) 128 h)
 
       pub judged-room : countOf m < 128 → judged m x entry ≡ Room place
-      judged-room h = judged-vacant ∙ need-true _ _ _ (le-leb (heldOf m + entry) (limitOf m) room) ∙ need-true _ _ _ (lt-ltb (countOf m) 128 h)
+      judged-room h = judged-vacant ∙ need-true _ _ _ room ∙ need-true _ _ _ (lt-ltb (countOf m) 128 h)
 
 -- ---- the judge's answer beside the model's
 

@@ -19,15 +19,18 @@ use instructions::read::InstructionRead;
 use instructions::read::read_for_decoder;
 use integers::answer;
 use integers::number::TableIndex;
-use memory::number::u16_at;
 use reply::Reply;
 use state::decoder::forms_decoder;
+use state::head::count_of;
 use state::layout;
+use state::row::name_length_at;
+use state::row::status_at;
 use statics::table::static_name;
 use statics::table::static_text;
 use table::insert::insert_like;
 use table::insert::insert_named;
 use table::insert::insert_strings;
+use table_rows::fits;
 use table_search::find::Found;
 use table_search::find::find;
 use table_search::place::EntryPlace;
@@ -53,7 +56,7 @@ impl Judged {
     }
 }
 
-// Judges an insert of an entry of this size: 6, 7, 15. Sizes are added, since the held size may be above the limit.
+// Judges an insert of an entry of this size: 6, 7, 15.
 fn judge(m: &[u8], index: TableIndex, size: usize) -> Judged
     requires { ⌜ (62 ≤ index .value) × (size < 65536) × (formsDecoder (now m) ≡ true) ⌝ }
     ensures { λ r. ⌜ r ≡ judged (now (m .entry)) (index .value) size ⌝ }
@@ -62,10 +65,10 @@ fn judge(m: &[u8], index: TableIndex, size: usize) -> Judged
     let Found::Vacant(place) = f else {
         return Judged::Refused(answer::HELD);
     };
-    if (u16_at(m, layout::LIMIT) as usize) < (u16_at(m, layout::HELD) as usize) + size {
+    if !fits(m, size) {
         return Judged::Refused(answer::OVER_LIMIT);
     }
-    if layout::PLACES <= (u16_at(m, layout::COUNT) as usize) {
+    if layout::PLACES <= (count_of(m) as usize) {
         return Judged::Refused(answer::FULL);
     }
     Judged::Room(place)
@@ -87,7 +90,11 @@ fn insert_by_string(
     ensures { λ _. ⌜ now (m .exit) ≡ namedInsert (now (m .entry)) (index .value)
         (stringBytes (now (s .entry)) name) (stringBytes (now (s .entry)) value) taken .memory ⌝ }
 {
-    let j = judge(m, index, name.length(s) + value.length(s) + 32);
+    let j = judge(
+        m,
+        index,
+        name.length(s) + value.length(s) + layout::ENTRY_SIZE,
+    );
     let Judged::Room(place) = j else {
         return Reply::refused(j.number());
     };
@@ -100,18 +107,18 @@ fn insert_by_static(
     m: &mut [u8],
     s: &[u8],
     index: TableIndex,
-    named: u32,
+    named: TableIndex,
     value: StringPlace,
     taken: u32,
 ) -> Reply
-    requires { ⌜ FineIndex (index .value) × (formsDecoder (now m) ≡ true) × (1 ≤ named) × (named ≤ 61) ⌝ }
+    requires { ⌜ FineIndex (index .value) × (formsDecoder (now m) ≡ true) × (1 ≤ named .value) × (named .value ≤ 61) ⌝ }
     requires { ⌜ InString (now s) value × (stringLength (now s) value ≤ 2047) ⌝ }
-    ensures { λ r. ⌜ answerOf r ≡ namedInsert (now (m .entry)) (index .value) (staticName named) (stringBytes (now (s .entry)) value) taken .answer ⌝ }
-    ensures { λ _. ⌜ now (m .exit) ≡ namedInsert (now (m .entry)) (index .value) (staticName named) (stringBytes (now (s .entry)) value) taken .memory ⌝ }
+    ensures { λ r. ⌜ answerOf r ≡ namedInsert (now (m .entry)) (index .value) (staticName (named .value)) (stringBytes (now (s .entry)) value) taken .answer ⌝ }
+    ensures { λ _. ⌜ now (m .exit) ≡ namedInsert (now (m .entry)) (index .value) (staticName (named .value)) (stringBytes (now (s .entry)) value) taken .memory ⌝ }
 {
     let text = static_text();
     let name = static_name(&text, named);
-    let j = judge(m, index, name.len() + value.length(s) + 32);
+    let j = judge(m, index, name.len() + value.length(s) + layout::ENTRY_SIZE);
     let Judged::Room(place) = j else {
         return Reply::refused(j.number());
     };
@@ -137,8 +144,8 @@ fn insert_by_row(
     ensures { λ _. ⌜ now (m .exit) ≡ namedInsert (now (m .entry)) (index .value)
         (nameAt (now (m .entry)) row) (stringBytes (now (s .entry)) value) taken .memory ⌝ }
 {
-    let name = u16_at(m, layout::row_place(row) + 6) as usize;
-    let j = judge(m, index, name + value.length(s) + 32);
+    let name = name_length_at(m, row) as usize;
+    let j = judge(m, index, name + value.length(s) + layout::ENTRY_SIZE);
     let Judged::Room(place) = j else {
         return Reply::refused(j.number());
     };
@@ -161,7 +168,7 @@ fn insert_by_index(
     ensures { λ _. ⌜ now (m .exit) ≡ indexedInsert (now (m .entry)) (index .value) (named .value) (stringBytes (now (s .entry)) value) taken .memory ⌝ }
 {
     match locate(m, named) {
-        EntryPlace::Static(i) => insert_by_static(m, s, index, i.value, value, taken),
+        EntryPlace::Static(i) => insert_by_static(m, s, index, i, value, taken),
         EntryPlace::Dynamic(row) => insert_by_row(m, s, index, named, row, value, taken),
         EntryPlace::Nowhere => Reply::refused(answer::VACANT),
     }
@@ -187,7 +194,7 @@ fn delete(
     let Found::At(place) = f else {
         return Reply::refused(answer::VACANT);
     };
-    if u16_at(m, layout::row_place(place) + 10) != 0 {
+    if status_at(m, place) != 0 {
         return Reply::refused(answer::UNDER_DELETION);
     }
     append_delete(m, place, index, s, nontrailer, trailer);

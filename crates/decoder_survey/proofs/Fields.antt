@@ -21,14 +21,12 @@ use Rattle.blocks.specs.declared.read.RepresentationPlace.{RepresentationPlace}
 use Rattle.blocks.specs.declared.read.RepresentationPlace.the-variants.{Indexed, Literal}
 use Rattle.model.specs.Decoder.{lookup}
 use Rattle.state.specs.DecoderState.{decoderOf}
-use Rattle.table_search.specs.Place.{locate}
+use Rattle.table_search.specs.Place.{locate, Here}
 use Rattle.table_search.specs.declared.place.EntryPlace.{EntryPlace}
 use Rattle.table_search.specs.declared.place.EntryPlace.the-variants.{Static, Dynamic, Nowhere}
-use Rattle.decoder_survey.specs.declared.entry.EntryLengths.the-variants.{Vacant as Nothing}
 use Rattle.decoder_survey.specs.declared.measure.Measured.the-variants.{Bytes, Waits}
 use Rattle.decoder_survey.specs.Measure.{Stands, fieldMeant, fieldAt, IsField, fieldBytes, fieldMeasured}
-use Rattle.decoder_survey.specs.Passes.{lengthsIn}
-use Rattle.decoder_survey.proofs.Entries.{Here, entryOf, slotOf, Located, located, Sized, no-entry}
+use Rattle.decoder_survey.proofs.Entries.{entryOf, slotOf, Located, located}
 
 -- ---- the bytes of a field
 
@@ -107,13 +105,6 @@ module _ (m : List ℕ) (i : ℕ) (f : Entry → Field) {F : FieldMeaning} (N : 
   standing (Static index) L h = tt
   standing (Dynamic row) L h = tt
   standing Nowhere L h = subst IsField (by-slot Nowhere L) h
-
-  -- the field of an entry by its lengths
-  pub sized-field : {n v : ℕ} → (z : Sized m i n v) → F ≡ field (f (z .entry))
-  sized-field z = N ∙ ap (λ (s : Slot). onSlot i s f) (z .means)
-
-  pub sized-waits : lengthsIn (lookup (decoderOf m) i) ≡ Nothing → Waits (record { value = i }) ≡ fieldMeasured F
-  sized-waits e = sym (ap fieldMeasured (N ∙ ap (λ (s : Slot). onSlot i s f) (no-entry (lookup (decoderOf m) i) e)))
 
   named-most : (p : EntryPlace) → Located m i p → Short (f (entryOf m p)) → length (fieldBytes F) ≤ 2307
   named-most (Static index) L h = most (f (entryOf m (Static index))) (by-slot (Static index) L) h

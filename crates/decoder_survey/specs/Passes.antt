@@ -10,14 +10,11 @@ use Rattle.fields.specs.Form.{Field}
 use Rattle.blocks.specs.Representation.{Representation}
 use Rattle.blocks.specs.Reading.{BlockRead, block, blockFrom, readBlock, flagOf, onRepresentation, readRepresentation}
 use Rattle.blocks.specs.Reading as reading
-use Rattle.blocks.specs.Meaning.{Slot, vacant, holds, BlockMeaning, blockMeaning}
+use Rattle.blocks.specs.Meaning.{BlockMeaning, blockMeaning}
 use Rattle.model.specs.Decoder.{lookup}
-use Rattle.state.specs.Layout.{nameLengthAt, valueLengthAt}
 use Rattle.state.specs.Rows.{nameAt, valueAt}
 use Rattle.state.specs.DecoderState.{decoderOf}
 use Rattle.decoder_survey.specs.Measure.{waitsFor, fieldAt, fieldMeasured, representations, IsList, listBytes, blockMeasured}
-use Rattle.decoder_survey.specs.declared.entry.EntryLengths.{EntryLengths}
-use Rattle.decoder_survey.specs.declared.entry.EntryLengths.the-variants.{Of, Vacant}
 use Rattle.decoder_survey.specs.declared.measure.Measured.{Measured}
 use Rattle.decoder_survey.specs.declared.measure.Measured.the-variants.{Bytes as MeasuredBytes, Waits as MeasuredWaits}
 use Rattle.decoder_survey.specs.declared.measure.Step.{Step}
@@ -40,14 +37,6 @@ surveyAnswer (Waits index) = waitsFor index
 surveyAnswer (Refused number) = refusal number
 
 -- ---- entries
-
-abbrev pub rowLengths : List ℕ → ℕ → EntryLengths
-rowLengths m i = Of (nameLengthAt m i) (valueLengthAt m i)
-
--- of what an index names
-abbrev pub lengthsIn : Slot → EntryLengths
-lengthsIn vacant = Vacant
-lengthsIn (holds e) = Of (length (e .name)) (length (e .value))
 
 -- the field that an index of row i stands for
 abbrev pub rowField : List ℕ → ℕ → Field

@@ -6,8 +6,6 @@ ghost use Rattle.blocks.specs.Representation.{Representation};
 ghost use Rattle.blocks.specs.Reading.{InBytes};
 ghost use Rattle.decoder_survey.specs.Measure.{Stands, fieldMeant, fieldAt, namedAt, fieldMeasured};
 ghost use Rattle.decoder_survey.specs.Passes.{stepOf, stepAt, waitsUnless, restAt, blockSurvey, ToldSurvey};
-use crate::entry::EntryLengths;
-use crate::entry::entry_lengths;
 use blocks::read::BLOCK_LIMIT;
 use blocks::read::INDEXED;
 use blocks::read::RepresentationPlace;
@@ -22,6 +20,9 @@ use blocks::short::short_named;
 use fields::write::field_size;
 use integers::answer::TOO_LONG;
 use integers::number::TableIndex;
+use table_search::place::EntryLengths;
+use table_search::place::lengths_at;
+use table_search::place::locate;
 use wire::name::NamePlace;
 use wire::text::StringPlace;
 
@@ -50,7 +51,7 @@ fn indexed_size(m: &[u8], index: TableIndex) -> Measured
     requires { ⌜ Stands (now m) × (0 < index .value) ⌝ }
     ensures { λ r. ⌜ r ≡ fieldMeasured (fieldMeant (now (m .entry)) (Representation.indexed (index .value))) ⌝ }
 {
-    match entry_lengths(m, index) {
+    match lengths_at(m, locate(m, index)) {
         EntryLengths::Of(name, value) => Measured::Bytes(field_size(name, value)),
         EntryLengths::Vacant => Measured::Waits(index),
     }
@@ -62,7 +63,7 @@ fn named_size(m: &[u8], s: &[u8], index: TableIndex, value: StringPlace) -> Meas
     requires { ⌜ InBytes (now s) (RepresentationPlace.Literal 0 (NamePlace.Index index) value) ⌝ }
     ensures { λ r. ⌜ ((flag : ℕ) → r ≡ fieldMeasured (namedAt (now (m .entry)) (now (s .entry)) flag index value)) ⌝ }
 {
-    match entry_lengths(m, index) {
+    match lengths_at(m, locate(m, index)) {
         EntryLengths::Of(name, _) => Measured::Bytes(field_size(name, value.length(s))),
         EntryLengths::Vacant => Measured::Waits(index),
     }

@@ -6,15 +6,15 @@ use mathlib.Core.List.{List}
 use Rattle.memory.specs.Bytes.{overlay, moved, part}
 use Rattle.memory.specs.Numbers.{numberBytes}
 use Rattle.memory.proofs.Numbers.{number-below}
-use Rattle.state.specs.Layout.{countOf, deleteCount, deletePlace}
+use Rattle.state.specs.Layout.{deletePlace, countPlace, deleteCountPlace, countOf, deleteCount}
 use Rattle.deletes.specs.Deletes.{renumbered, dropped}
 
 module _ (m : List ℕ) (k n to from : ℕ) (e : n ≡ deleteCount m) (d : to ≡ deletePlace k) (f : from ≡ deletePlace (k + 1)) (one two : List ℕ)
-    (p : one ≡ moved m to from (76 * (n - (k + 1)))) (q : two ≡ overlay one 8 (numberBytes 2 (n - 1))) where
+    (p : one ≡ moved m to from (76 * (n - (k + 1)))) (q : two ≡ overlay one deleteCountPlace (numberBytes 2 (n - 1))) where
   pub rows-kept : countOf two ≡ countOf m
   rows-kept =
-      ap countOf q ∙ number-below 2 one 6 8 (numberBytes 2 (n - 1)) (omega arith)
-      ∙ ap countOf p ∙ number-below 2 m 6 to (part m from (76 * (n - (k + 1)))) (omega arith)
+      ap countOf q ∙ number-below 2 one countPlace deleteCountPlace (numberBytes 2 (n - 1)) (omega arith)
+      ∙ ap countOf p ∙ number-below 2 m countPlace to (part m from (76 * (n - (k + 1)))) (omega arith)
 
   pub drop-closed : (three : List ℕ) → three ≡ renumbered (k + 1) (countOf two) two 0 → three ≡ dropped m k
   unfolding dropped

@@ -4,20 +4,15 @@ use Prim.Native.Nat.{ℕ, suc, _+_, _-_, _≤_, _<_}
 use native.Mathlib.Omega.{arith}
 use mathlib.Core.Bool.{true, false}
 use mathlib.Core.List.{List}
-use lib.ListN.{length}
 use lib.Dec.{ltb}
 use borrow.Author.Tests.{lt-ltb, le-ltb}
 use Rattle.memory.specs.Choice.{pick}
+use Rattle.memory.specs.Bytes.{overlay}
 use Rattle.memory.specs.Numbers.{numberBytes}
 use Rattle.memory.proofs.Order.{pick-true, pick-false}
-use Rattle.memory.proofs.Overlay.{length-overlay}
-use Rattle.state.specs.Layout.{rowPlace, statusAt}
+use Rattle.state.specs.Layout.{statusPlace, statusAt}
 use Rattle.table_rows.specs.Rows.{statusSet}
 use Rattle.deletes.specs.Deletes.{renumbered}
-
-pub length-statusSet : (m : List ℕ) (place status : ℕ) → length (statusSet m place status) ≡ length m
-unfolding statusSet
-length-statusSet m place status = length-overlay m (rowPlace place + 10) (numberBytes 2 status)
 
 pub renumber-all : (status count : ℕ) (m : List ℕ) → renumbered status count m 0 ≡ renumbered status (count - 0) m 0
 renumber-all status count m =
@@ -40,8 +35,9 @@ module _ (status count i : ℕ) (m : List ℕ) where
         ap (λ (k : ℕ). renumbered status k m i) n
 
     -- a row that points behind the delete, and one that does not
-    pub renumber-lower : (old : ℕ) → old ≡ statusAt m i → status < old → (one : List ℕ) → one ≡ statusSet m i (old - 1)
+    pub renumber-lower : (old : ℕ) → old ≡ statusAt m i → status < old → (one : List ℕ) → one ≡ overlay m (statusPlace i) (numberBytes 2 (old - 1))
         → renumbered status (count - i) m i ≡ renumbered status (count - (i + 1)) one (i + 1)
+    unfolding statusSet
     renumber-lower old e h one f =
         let t : ltb status (statusAt m i) ≡ true = lt-ltb status (statusAt m i) (omega arith) in
         turn ∙ ap (λ (o : List ℕ). renumbered status (count - (i + 1)) o (i + 1))

@@ -4,25 +4,33 @@ ghost use Prim.Native.Nat.{ℕ, _+_, _≤_, _<_};
 ghost use lib.ListN.{length};
 ghost use Rattle.memory.specs.Bytes.{overlay};
 ghost use Rattle.wire.specs.StreamList.{InList, listOf};
-ghost use Rattle.state.specs.Layout.{countOf, deleteCount};
+ghost use Rattle.state.specs.Layout.{frontLength, decoderLength, countOf, deleteCount};
 ghost use Rattle.state.specs.DecoderState.{streamsBytes, listBytes};
 ghost use Rattle.deletes.specs.Deletes.{appended, renumbered, Dropping, dropped};
 use integers::number::TableIndex;
 use memory::copy::move_down;
-use memory::number::put_u16;
-use memory::number::put_u32;
-use memory::number::u16_at;
-use state::layout::COUNT;
-use state::layout::DELETES_COUNT;
+use memory::copy::put_zeros;
+use state::head::count_of;
+use state::head::delete_count;
+use state::head::put_delete_count;
+use state::kept::LISTED_STREAM;
+use state::kept::listed_place;
+use state::kept::nontrailer_list;
+use state::kept::put_delete_index;
+use state::kept::put_horizon;
+use state::kept::put_listed;
+use state::kept::put_listed_count;
+use state::kept::trailer_list;
+use state::layout::DELETE_LENGTH;
+use state::layout::LISTED_BYTES;
 use state::layout::delete_place;
-use state::layout::row_place;
-use table_rows::put_zeros;
-use table_rows::set_status;
+use state::row::put_status;
+use state::row::status_at;
 use wire::stream_list::DeltaRead;
 use wire::stream_list::ListPlace;
 use wire::stream_list::read_delta;
 
-// Stores the streams that the list's deltas say, two bytes each.
+// Stores the streams that the list's deltas say.
 fn put_streams(m: &mut [u8], at: usize, s: &[u8], list: ListPlace)
     requires { ⌜ InList (now s) list ⌝ }
     requires { ⌜ at + 32 ≤ length (now m) ⌝ }
@@ -37,7 +45,7 @@ fn put_streams(m: &mut [u8], at: usize, s: &[u8], list: ListPlace)
         let DeltaRead::Stream(stream, next) = r else {
             return;
         };
-        put_u16(m, at + 2 * i, stream.value);
+        put_listed(m, at, i, stream);
         last = stream.value as u32;
         place = next;
         i += 1;
@@ -47,14 +55,19 @@ fn put_streams(m: &mut [u8], at: usize, s: &[u8], list: ListPlace)
 // Stores a stream list: horizon, count, its streams, and zeros in the unused places.
 fn put_list(m: &mut [u8], at: usize, s: &[u8], list: ListPlace)
     requires { ⌜ InList (now s) list ⌝ }
-    requires { ⌜ at + 36 ≤ length (now m) ⌝ }
+    requires { ⌜ (at ≤ decoderLength) × (at + 36 ≤ length (now m)) ⌝ }
     ensures { λ _. ⌜ now (m .exit) ≡ overlay (now (m .entry)) at (listBytes (listOf (now (s .entry)) list)) ⌝ }
 {
     let count = list.count as usize;
-    put_u16(m, at, list.horizon as u16);
-    put_u16(m, at + 2, list.count as u16);
-    put_streams(m, at + 4, s, list);
-    put_zeros(m, at + 4 + 2 * count, 32 - 2 * count);
+    put_horizon(m, at, list.horizon as u16);
+    put_listed_count(m, at, list.count as u16);
+    let streams = listed_place(at);
+    put_streams(m, streams, s, list);
+    put_zeros(
+        m,
+        streams + LISTED_STREAM * count,
+        LISTED_BYTES - LISTED_STREAM * count,
+    );
 }
 
 // Keeps a delete of the entry in row `place`, whose lists stand in `s`.
@@ -66,31 +79,31 @@ pub fn append_delete(
     nontrailer: ListPlace,
     trailer: ListPlace,
 )
-    requires { ⌜ (place < 128) × (deleteCount (now m) < 256) × (35912 ≤ length (now m)) ⌝ }
+    requires { ⌜ (place < 128) × (deleteCount (now m) < 256) × (decoderLength ≤ length (now m)) ⌝ }
     requires { ⌜ (InList (now s) nontrailer) × (InList (now s) trailer) ⌝ }
     ensures { λ _. ⌜ now (m .exit) ≡ appended (now (m .entry)) place
         (record { index = index .value; nontrailer = listOf (now (s .entry)) nontrailer; trailer = listOf (now (s .entry)) trailer }) ⌝ }
 {
-    let n = u16_at(m, DELETES_COUNT);
-    let at = delete_place(n as usize);
-    put_u32(m, at, index.value);
-    put_list(m, at + 4, s, nontrailer);
-    put_list(m, at + 40, s, trailer);
-    set_status(m, place, n + 1);
-    put_u16(m, DELETES_COUNT, n + 1);
+    let n = delete_count(m);
+    let k = n as usize;
+    put_delete_index(m, k, index);
+    put_list(m, nontrailer_list(k), s, nontrailer);
+    put_list(m, trailer_list(k), s, trailer);
+    put_status(m, place, n + 1);
+    put_delete_count(m, n + 1);
 }
 
 // Rows that point behind a delete that goes point one place lower.
 fn renumber(m: &mut [u8], status: u16)
-    requires { ⌜ (countOf (now m) ≤ 128) × (7232 ≤ length (now m)) ⌝ }
+    requires { ⌜ (countOf (now m) ≤ 128) × (frontLength ≤ length (now m)) ⌝ }
     ensures { λ _. ⌜ now (m .exit) ≡ renumbered status (countOf (now (m .entry))) (now (m .entry)) 0 ⌝ }
 {
-    let count = u16_at(m, COUNT) as usize;
+    let count = count_of(m) as usize;
     let mut i: usize = 0;
     while i < count {
-        let old = u16_at(m, row_place(i) + 10);
+        let old = status_at(m, i);
         if status < old {
-            set_status(m, i, old - 1);
+            put_status(m, i, old - 1);
         }
         i += 1;
     }
@@ -101,8 +114,13 @@ pub fn drop_delete(m: &mut [u8], k: usize)
     requires { ⌜ Dropping (now m) k ⌝ }
     ensures { λ _. ⌜ now (m .exit) ≡ dropped (now (m .entry)) k ⌝ }
 {
-    let n = u16_at(m, DELETES_COUNT) as usize;
-    move_down(m, delete_place(k), delete_place(k + 1), 76 * (n - (k + 1)));
-    put_u16(m, DELETES_COUNT, (n - 1) as u16);
+    let n = delete_count(m) as usize;
+    move_down(
+        m,
+        delete_place(k),
+        delete_place(k + 1),
+        DELETE_LENGTH * (n - (k + 1)),
+    );
+    put_delete_count(m, (n - 1) as u16);
     renumber(m, (k + 1) as u16);
 }

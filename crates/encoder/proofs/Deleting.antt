@@ -1,7 +1,7 @@
 -- The ways through a delete: the model's refusals in their order, each leaving everything as it was; and the entry put under deletion.
 -- By the definitions at the facts that the tests tell, and by the laws of the changes.
 use mathlib.Core.Path.{_≡_, refl, sym, ap, _∙_}
-use Prim.Native.Nat.{ℕ, _+_, _≤_, _<_}
+use Prim.Native.Nat.{ℕ, _≤_, _<_}
 use native.Mathlib.Omega.{arith}
 use mathlib.Core.Bool.{true, false, not}
 use mathlib.Core.Option.{Option, none, some}
@@ -10,7 +10,7 @@ use lib.Dec.{eqb}
 use lib.ListN.{length}
 use borrow.Author.Tests.{le-leb, lt-leb, eq-eqb}
 use Rattle.memory.specs.Bytes.{Small, overlay}
-use Rattle.memory.specs.Numbers.{number}
+use Rattle.memory.specs.Numbers.{numberBytes}
 use Rattle.memory.proofs.Order.{need-true, need-false}
 use Rattle.integers.specs.Answers.{done, no-state, not-allowed, vacant, under-deletion, no-room}
 use Rattle.integers.specs.Integer.{largest}
@@ -18,7 +18,7 @@ use Rattle.instructions.specs.Instruction.{Instruction, delete, FineInstruction
 use Rattle.model.specs.Table.{look}
 use Rattle.model.specs.Outcome.{Outcome, refuse, finish, instruction, outputBytes}
 use Rattle.model.specs.Encoder.{Sent, sentIndex, Encoder, withSent, emptyList, markDeleted, deleteOfSent, deleteFound, deleteSent}
-use Rattle.state.specs.Layout.{referencePlace, statusAt}
+use Rattle.state.specs.Layout.{statusPlace, statusAt}
 use Rattle.state.specs.EncoderState.{nontrailerAt, trailerAt, sentOfRow, encoderOf, overlayEncoder}
 use Rattle.state.specs.Forms.{formsEncoder}
 use Rattle.table_rows.specs.Rows.{statusSet}
@@ -111,17 +111,11 @@ module _ (m : List ℕ) (small : Small m) (forms : formsEncoder m ≡ true) (i :
           steps (deleteFound E (length out) (some (sentAt m place)))
           (index-looked E i (length out) l k (some (sentAt m place)) (row-found m small forms i place f .looked))
 
--- ---- the entry with index x, found and not under deletion: its horizons p and t stand at its place, and n is the length of its delete
+-- ---- the entry with index x, found and not under deletion: its horizons are p and t, and n is the length of its delete
 module _ (m : List ℕ) (small : Small m) (forms : formsEncoder m ≡ true) (x place : ℕ) (f : found m x place) (live : statusAt m place ≡ 0)
-    (at p t n : ℕ) (here : at ≡ referencePlace x) (hp : p ≡ number 2 m at) (ht : t ≡ number 2 m (at + 38)) (s : n ≡ deleteSize x p t) where
+    (p t n : ℕ) (nontrailer-is : p ≡ nontrailerAt m x) (trailer-is : t ≡ trailerAt m x) (s : n ≡ deleteSize x p t) where
   abbrev said : Instruction
   said = delete x (emptyList p) (emptyList t)
-
-  nontrailer-is : p ≡ nontrailerAt m x
-  nontrailer-is = hp ∙ ap (number 2 m) here
-
-  trailer-is : t ≡ trailerAt m x
-  trailer-is = ht ∙ ap (λ (h : ℕ). number 2 m (h + 38)) here
 
   pub said-length : length (instructionWire said) ≡ n
   said-length = delete-size x p t ∙ sym s
@@ -159,8 +153,9 @@ module _ (m : List ℕ) (small : Small m) (forms : formsEncoder m ≡ true) (x p
         ∙ stays m small forms out no-room
 
     pub found-done : n ≤ length out
-        → foundDelete m place out ≡ record { answer = done n 0; memory = statusSet m place 1; output = overlay out 0 (instructionWire said) }
-    unfolding stepped outputBytes
+        → foundDelete m place out
+        ≡ record { answer = done n 0; memory = overlay m (statusPlace place) (numberBytes 2 1); output = overlay out 0 (instructionWire said) }
+    unfolding stepped outputBytes statusSet
     found-done h =
         let marked = ap (λ (y : ℕ). overlayEncoder (withSent (encoderOf m) (map (markDeleted y) (encoderOf m .entries))) m) index-is
         ∙ sym (changes m small forms .delete x place f) in

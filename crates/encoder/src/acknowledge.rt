@@ -13,10 +13,9 @@ use integers::answer::NO_STATE;
 use integers::answer::NOT_ALLOWED;
 use integers::answer::NOT_UNDER_DELETION;
 use integers::number::TableIndex;
-use memory::number::u16_at;
 use reply::Reply;
 use state::encoder::forms_encoder;
-use state::layout::row_place;
+use state::row::status_at;
 use table::remove::remove;
 use table_search::find::Found;
 use table_search::find::find;
@@ -31,7 +30,7 @@ fn free(m: &mut [u8], index: TableIndex, taken: u32) -> Reply
     let Found::At(place) = f else {
         return Reply::refused(NOT_UNDER_DELETION);
     };
-    if u16_at(m, row_place(place) + 10) == 0 {
+    if status_at(m, place) == 0 {
         return Reply::refused(NOT_UNDER_DELETION);
     }
     remove(m, place);

@@ -15,15 +15,19 @@ use integers::answer::NOT_ALLOWED;
 use integers::answer::UNDER_DELETION;
 use integers::answer::VACANT;
 use integers::number::TableIndex;
-use memory::number::u16_at;
 use reply::Reply;
 use sizes::delete_size;
 use state::encoder::forms_encoder;
-use state::encoder::reference_place;
-use state::layout::row_place;
-use table_rows::set_status;
+use state::kept::horizon_at;
+use state::reference::nontrailer_reference;
+use state::reference::trailer_reference;
+use state::row::put_status;
+use state::row::status_at;
 use table_search::find::Found;
 use table_search::find::find;
+
+// The status of an entry under deletion.
+const DELETED: u16 = 1;
 
 // An entry that is not under deletion: 12, or its delete.
 fn delete_found(m: &mut [u8], index: TableIndex, place: usize, out: &mut [u8]) -> Reply
@@ -33,17 +37,16 @@ fn delete_found(m: &mut [u8], index: TableIndex, place: usize, out: &mut [u8]) -
     ensures { λ _. ⌜ now (m .exit) ≡ foundDelete (now (m .entry)) place (now (out .entry)) .memory ⌝ }
     ensures { λ _. ⌜ now (out .exit) ≡ foundDelete (now (m .entry)) place (now (out .entry)) .output ⌝ }
 {
-    let at = reference_place(index.value);
-    let nontrailer = u16_at(m, at) as u32;
-    let trailer = u16_at(m, at + 38) as u32;
-    let n = delete_size(index.value, nontrailer, trailer);
+    let nontrailer = horizon_at(m, nontrailer_reference(index)) as u32;
+    let trailer = horizon_at(m, trailer_reference(index)) as u32;
+    let n = delete_size(index, nontrailer, trailer);
     if out.len() < n {
         return Reply::refused(NO_ROOM);
     }
     let none = [0u16; 1];
     let empty = &none[..0];
     write_delete(index, nontrailer, empty, trailer, empty, out, 0);
-    set_status(m, place, 1);
+    put_status(m, place, DELETED);
     Reply::done(n as u32, 0)
 }
 
@@ -55,20 +58,18 @@ pub fn delete(m: &mut [u8], index: u64, out: &mut [u8]) -> Reply
     if !forms_encoder(m) {
         return Reply::refused(NO_STATE);
     }
-    if index < 62 {
+    if index < (TableIndex::FIRST as u64) {
         return Reply::refused(NOT_ALLOWED);
     }
-    if 134_217_727 < index {
+    if (TableIndex::LAST as u64) < index {
         return Reply::refused(NOT_ALLOWED);
     }
-    let i = TableIndex {
-        value: index as u32,
-    };
+    let i = TableIndex::new(index as u32);
     let f = find(m, i);
     let Found::At(place) = f else {
         return Reply::refused(VACANT);
     };
-    if u16_at(m, row_place(place) + 10) != 0 {
+    if status_at(m, place) != 0 {
         return Reply::refused(UNDER_DELETION);
     }
     delete_found(m, i, place, out)

@@ -11,9 +11,9 @@ use Rattle.memory.specs.Compare.{same}
 use Rattle.memory.proofs.Order.{pick-both, pick-true, pick-false}
 use Rattle.wire.specs.Name.{Name, indexed as by-index}
 use Rattle.statics.specs.Table.{Entry}
-use Rattle.statics.specs.Search.{findName, findBoth}
-use Rattle.statics.specs.declared.search.StaticFound.{StaticFound}
-use Rattle.statics.specs.declared.search.StaticFound.the-variants.{At, Nothing}
+use Rattle.static_search.specs.Search.{findName, findBoth}
+use Rattle.static_search.specs.declared.search.StaticFound.{StaticFound}
+use Rattle.static_search.specs.declared.search.StaticFound.the-variants.{At, Nothing}
 use Rattle.fields.specs.Form.{Field}
 use Rattle.blocks.specs.Representation.{Representation, indexed, literal}
 use Rattle.blocks.specs.Meaning.{blockReferences}
@@ -27,7 +27,7 @@ use Rattle.state.specs.EncoderState.{encoderOf, overlayEncoder}
 use Rattle.state.specs.Forms.{formsEncoder}
 use Rattle.state_laws.proofs.EncoderLaws.{encoder-laws}
 use Rattle.state_laws.proofs.EncoderForms.{forms-holds-encoder}
-use Rattle.encoder_fields.specs.Refer.{partAt, entered}
+use Rattle.encoder_fields.specs.Refer.{entered}
 use Rattle.encoder_block.proofs.Entering.{fits-entered}
 
 -- ---- entries that differ in their horizons alone
@@ -95,7 +95,7 @@ refer-deleted s p rs e =
 
 -- ---- memory with references entered
 
-module _ (m : List ℕ) (small : Small m) (forms : formsEncoder m ≡ true) (stream : ℕ) (below : stream < streams) (part : ℕ) (rs : List Representation) where
+module _ (m : List ℕ) (small : Small m) (forms : formsEncoder m ≡ true) (stream : ℕ) (below : stream < streams) (part : Part) (rs : List Representation) where
   pub entered-forms : formsEncoder (entered m stream part rs) ≡ true
   unfolding entered
   entered-forms = encoder-laws .forms _ m (forms-holds-encoder m small forms .long) (fits-entered m small forms stream below part rs)
@@ -105,5 +105,5 @@ module _ (m : List ℕ) (small : Small m) (forms : formsEncoder m ≡ true) (str
   entered-chooses f =
       ap (λ (E : Encoder). choose (E .entries) f)
       (encoder-laws .back _ m (forms-holds-encoder m small forms .long) (fits-entered m small forms stream below part rs))
-      ∙ choose-same (refer stream (partAt part) rs) (refer-index stream (partAt part) rs) (refer-entry stream (partAt part) rs)
-      (refer-deleted stream (partAt part) rs) (encoderOf m .entries) f
+      ∙ choose-same (refer stream part rs) (refer-index stream part rs) (refer-entry stream part rs)
+      (refer-deleted stream part rs) (encoderOf m .entries) f

@@ -18,10 +18,10 @@ use Rattle.fields.specs.Form.{Field}
 use Rattle.blocks.specs.Representation.{Representation, indexed, literal}
 use Rattle.blocks.specs.Meaning.{references, blockReferences}
 use Rattle.model.specs.Table.{look}
-use Rattle.model.specs.Parts.{Part, nontrailer, trailer, mark, streams}
+use Rattle.model.specs.Parts.{Part, mark, streams}
 use Rattle.model.specs.Decoder.{isSome}
 use Rattle.model.specs.Encoder.{Sent, sentIndex, Encoder, withSent, withWritten, FineSent, refer}
-use Rattle.model_laws.proofs.Tables.{nope, pick-eq, pick-lt, pick-yes, pick-no, look-index, look-map}
+use Rattle.model_laws.proofs.Tables.{nope, pick-eq, pick-lt, look-index, look-map}
 use Rattle.model_laws.proofs.DecoderWays.{some-found}
 use Rattle.model_laws.proofs.Order.{refer-index}
 use Rattle.model_laws.proofs.SentChanges.{refer-entry, refer-fine, sent-map}
@@ -40,7 +40,7 @@ use Rattle.table_laws.proofs.Finding.{FoundAt, found-here, found-next}
 use Rattle.table_laws.proofs.FrontFits.{marks-fit}
 use Rattle.table_laws.proofs.EncoderUpdates.{writes, refers}
 use Rattle.encoder_fields.specs.Measure.{chosen}
-use Rattle.encoder_fields.specs.Refer.{partAt, AllHeld, entered, enteredOne, enteredBy, enteredChoice, InTable}
+use Rattle.encoder_fields.specs.Refer.{AllHeld, entered, enteredOne, enteredBy, enteredChoice, InTable}
 use Rattle.encoder_fields.specs.declared.choice.Choice.{Choice}
 use Rattle.encoder_fields.specs.declared.choice.Choice.the-variants.{Indexed, Named, Literal}
 use Rattle.encoder_block.proofs.Twice.{overlay-twice}
@@ -141,56 +141,48 @@ module _ (E : Encoder) (m : List ℕ) (H : HoldsEncoder E m) (s : ℕ) (p : Part
       ∙ overlay-twice now next m (marks-fit (encoderFront now) (encoder-fine now (fits rs)) (mark s p (E .written))) (fits rs .forms .order) (λ e. e)
       (λ e. refl) (ap (map rowOfSent) (map-id (now .entries))) (sym (map-id (now .entries)))
 
--- ---- one choice, and one index, by its kind and by the part
+-- ---- one choice, and one index, by its kind
 
-pub entered-choice : (m : List ℕ) (stream part : ℕ) (f : Field) (choice : Choice) → enteredChoice m stream part choice ≡ enteredBy m stream part (chosen f choice)
+pub entered-choice : (m : List ℕ) (stream : ℕ) (part : Part) (f : Field) (choice : Choice) → enteredChoice m stream part choice ≡ enteredBy m stream part (chosen f choice)
 entered-choice m stream part f (Indexed i) = refl
 entered-choice m stream part f (Named i) = refl
 entered-choice m stream part f Literal = refl
 
-module _ (m : List ℕ) (stream part index : ℕ) where
+module _ (m : List ℕ) (stream : ℕ) (part : Part) (index : ℕ) where
   pub entered-static : index < 62 → m ≡ enteredOne m stream part index
   unfolding enteredOne
   entered-static h = sym (pick-true (ltb index 62) m _ (lt-ltb index 62 h))
 
-  module _ (high : 62 ≤ index) where
-    entered-raised : (p : Part) → partAt part ≡ p → raised m index p stream ≡ enteredOne m stream part index
-    unfolding enteredOne
-    entered-raised p e =
-        ap (λ (q : Part). raised m index q stream) (sym e) ∙ sym (pick-false (ltb index 62) m (raised m index (partAt part) stream) (le-ltb index 62 high))
-
-    pub entered-nontrailer : part ≡ 0 → raised m index nontrailer stream ≡ enteredOne m stream part index
-    entered-nontrailer e = entered-raised nontrailer (pick-yes part 0 nontrailer trailer e)
-
-    pub entered-trailer : (part ≡ 0 → ⊥) → raised m index trailer stream ≡ enteredOne m stream part index
-    entered-trailer n = entered-raised trailer (pick-no part 0 nontrailer trailer n)
+  pub entered-raised : 62 ≤ index → raised m index part stream ≡ enteredOne m stream part index
+  unfolding enteredOne
+  entered-raised high = sym (pick-false (ltb index 62) m (raised m index part stream) (le-ltb index 62 high))
 
 -- ---- the same of memory that forms a state
 
-module _ (m : List ℕ) (small : Small m) (forms : formsEncoder m ≡ true) (stream : ℕ) (below : stream < streams) (part : ℕ) where
+module _ (m : List ℕ) (small : Small m) (forms : formsEncoder m ≡ true) (stream : ℕ) (below : stream < streams) (part : Part) where
   abbrev E : Encoder
   E = encoderOf m
 
   H : HoldsEncoder E m
   H = forms-holds-encoder m small forms
 
-  pub fits-entered : (rs : List Representation) → FitsEncoder (withSent E (map (refer stream (partAt part) rs) (E .entries)))
-  fits-entered rs = fits E m H stream (partAt part) below rs
+  pub fits-entered : (rs : List Representation) → FitsEncoder (withSent E (map (refer stream part rs) (E .entries)))
+  fits-entered rs = fits E m H stream part below rs
 
   pub entered-none : entered m stream part [] ≡ m
   unfolding entered
-  entered-none = after-none E m H stream (partAt part) below
+  entered-none = after-none E m H stream part below
 
   pub entered-length : (rs : List Representation) → length (entered m stream part rs) ≡ length m
   unfolding entered
-  entered-length rs = length-overlayEncoder (state E m H stream (partAt part) below rs) m
+  entered-length rs = length-overlayEncoder (state E m H stream part below rs) m
 
   pub entered-more : (ps : List Representation) (r : Representation) → AllHeld (E .entries) (r ∷ [])
       → enteredBy (entered m stream part ps) stream part r ≡ entered m stream part (ps ++ (r ∷ []))
   unfolding entered enteredOne
-  entered-more ps (indexed i) held = after-index E m H stream (partAt part) below ps (indexed i) i refl held
-  entered-more ps (literal flag (by-index i) value) held = after-index E m H stream (partAt part) below ps (literal flag (by-index i) value) i refl held
-  entered-more ps (literal flag (by-bytes name) value) held = after-text E m H stream (partAt part) below ps (literal flag (by-bytes name) value) refl
+  entered-more ps (indexed i) held = after-index E m H stream part below ps (indexed i) i refl held
+  entered-more ps (literal flag (by-index i) value) held = after-index E m H stream part below ps (literal flag (by-index i) value) i refl held
+  entered-more ps (literal flag (by-bytes name) value) held = after-text E m H stream part below ps (literal flag (by-bytes name) value) refl
 
   -- an index that is static or held has at most 189
   low : (i : ℕ) → (62 ≤ i → isSome (look sentIndex i (E .entries)) ≡ true) → i ≤ 189
@@ -206,7 +198,7 @@ module _ (m : List ℕ) (small : Small m) (forms : formsEncoder m ≡ true) (str
   held-low f Literal held = tt
 
   pub entered-written : (rs : List Representation)
-      → cleared (entered m stream part rs) (marksPlace (partAt part)) stream
-      ≡ overlayEncoder (withWritten (withSent E (map (refer stream (partAt part) rs) (E .entries))) (mark stream (partAt part) (E .written))) m
+      → cleared (entered m stream part rs) (marksPlace part) stream
+      ≡ overlayEncoder (withWritten (withSent E (map (refer stream part rs) (E .entries))) (mark stream part (E .written))) m
   unfolding entered
-  entered-written rs = after-written E m H stream (partAt part) below rs
+  entered-written rs = after-written E m H stream part below rs

@@ -1,39 +1,39 @@
 -- The block call's equations, one for each way through it. By the tests along that way; a refusal leaves memory and output, as a state that memory forms is
 -- over it already.
-use Prim.Native.Nat.{ℕ, _+_, _*_, _≤_, _<_}
+use Prim.Native.Nat.{ℕ, _≤_, _<_}
 use mathlib.Core.Path.{_≡_, refl, sym, ap, ap₂, _∙_}
 use native.Mathlib.Omega.{arith}
 use mathlib.Core.Bool.{true, false}
-use mathlib.Core.Option.{Option, none, some}
+use mathlib.Core.Option.{Option, some}
 use mathlib.Core.List.{List, map}
-use lib.Dec.{ltb, leb, eqb}
+use lib.Dec.{ltb, leb}
 use lib.ListN.{length}
-use borrow.Author.Tests.{ltb-true, lt-ltb, le-leb, lt-leb}
-use Rattle.memory.specs.Choice.{pick}
+use borrow.Author.Tests.{lt-ltb, le-leb, lt-leb}
 use Rattle.memory.specs.Bytes.{Small, overlay}
 use Rattle.memory.proofs.Order.{need-true, need-false}
 use Rattle.integers.specs.Answers.{Answer, done, refusal}
+use Rattle.integers.specs.declared.number.StreamNumber.{StreamNumber}
 use Rattle.marks.specs.Marks.{cleared}
 use Rattle.fields.specs.Form.{Field}
 use Rattle.fields.specs.Reading.{FieldListRead, list, readFieldList, fieldListAnswer}
 use Rattle.fields.specs.Reading as reading
 use Rattle.blocks.specs.Representation.{Representation, blockWire}
-use Rattle.model.specs.Parts.{Part, nontrailer, trailer, partOf, Marks, inTurn, streams}
+use Rattle.model.specs.Parts.{Part, nontrailer, trailer, partOf, partNumber, Marks, inTurn, streams}
 use Rattle.model.specs.Outcome.{Outcome, refuse, outputBytes}
 use Rattle.model.specs.Encoder.{Encoder, choose, writePart, encodePart, encodeBlock}
-use Rattle.model_laws.proofs.Tables.{nope, pick-eq, pick-yes, pick-no}
-use Rattle.model_laws.proofs.Marks.{and-both}
 use Rattle.state.specs.Layout.{marksPlace}
 use Rattle.state.specs.Front.{marksOf}
 use Rattle.state.specs.EncoderState.{encoderOf, overlayEncoder}
 use Rattle.state.specs.Forms.{formsEncoder}
 use Rattle.state_laws.proofs.EncoderForms.{forms-holds-encoder}
 use Rattle.state_laws.proofs.EncoderOverlay.{overlay-self-encoder}
-use Rattle.parts.specs.Turn.{partTurn}
+use Rattle.parts.specs.Turn.{partTurn, partIn}
+use Rattle.parts.specs.declared.turn.Part.{Part as PartCase}
+use Rattle.parts.proofs.Given.{in-turn, Given}
 use Rattle.reply.specs.Result.{Result, refused, stepped}
 use Rattle.encoder.specs.Calls.{onList, blockCall}
 use Rattle.encoder_fields.specs.Measure.{fieldsIn, representationsOf, roomAnswer}
-use Rattle.encoder_fields.specs.Refer.{partAt, entered}
+use Rattle.encoder_fields.specs.Refer.{entered}
 use Rattle.encoder_fields.proofs.Fields.{capped-low}
 use Rattle.encoder_fields.proofs.Bound.{room-ways}
 use Rattle.encoder_block.proofs.Entering.{entered-length, entered-written}
@@ -57,39 +57,24 @@ pub tells-kept : (r : Result) (m out : List ℕ) (number : ℕ) → r ≡ refuse
     → (m′ out′ : List ℕ) → m′ ≡ m → out′ ≡ out → Tells r answer m′ out′
 tells-kept r m out number e answer a m′ out′ em eo = tells r (refused m out number) e answer m′ out′ a em eo
 
--- ---- a part in turn
+-- ---- a part, its number and its marks
 
-pub record InTurn (marks : Marks) (stream part : ℕ) : Type 0 where
-  pub low : part ≤ 1
-  pub is : partOf part ≡ some (partAt part)
-  pub below : stream < streams
-  pub turn : inTurn marks stream (partAt part) ≡ true
-  pub place : marksPlace (partAt part) ≡ 64 + 512 * part
+part-is : (p : Part) → partOf (partNumber p) ≡ some p
+unfolding partOf
+part-is nontrailer = refl
+part-is trailer = refl
 
-module _ (marks : Marks) (stream part : ℕ) where
-  turned : (p : Part) → partAt part ≡ p → part ≤ 1 → partOf part ≡ some p → marksPlace p ≡ 64 + 512 * part → partTurn marks stream (some p) ≡ true
-      → InTurn marks stream part
-  unfolding partTurn
-  turned p e low is place h =
-      let b = and-both (ltb stream streams) (inTurn marks stream p) h in
-      record {
-        low = low;
-        is = is ∙ ap some (sym e);
-        below = ltb-true stream streams (b .0);
-        turn = ap (inTurn marks stream) e ∙ b .1;
-        place = ap marksPlace e ∙ place;
-      }
+pub marks-low : (p : Part) → marksPlace p ≤ 576
+marks-low nontrailer = omega arith
+marks-low trailer = omega arith
 
-  pub in-turn : partTurn marks stream (partOf part) ≡ true → InTurn marks stream part
-  unfolding partOf partTurn
-  in-turn h =
-      pick-eq (λ (o : Option Part). partOf part ≡ o → partTurn marks stream o ≡ true → InTurn marks stream part) part 0 (some nontrailer)
-      (pick (eqb part 1) (some trailer) none)
-      (λ e is. turned nontrailer (pick-yes part 0 nontrailer trailer e) (omega arith) is (omega arith))
-      (λ n. pick-eq (λ (o : Option Part). partOf part ≡ o → partTurn marks stream o ≡ true → InTurn marks stream part) part 1 (some trailer) none
-      (λ e is. turned trailer (pick-no part 0 nontrailer trailer n) (omega arith) is (omega arith))
-      (λ k is t. nope (cc)))
-      refl h
+-- the part that a call's number names is in turn
+pub named-turn : {marks : Marks} {stream n : ℕ} {s : StreamNumber} {c : PartCase} → Given marks stream n s c → partTurn marks stream (partOf n) ≡ true
+named-turn {marks} {stream} {n} {s} {c} g =
+    ap (λ (k : ℕ). partTurn marks stream (partOf k)) (g .number)
+    ∙ ap (partTurn marks stream) (part-is (partIn c))
+    ∙ ap (λ (k : ℕ). partTurn marks k (some (partIn c))) (g .stream)
+    ∙ g .turn
 
 -- ---- a field list
 
@@ -125,16 +110,21 @@ module _ (m : List ℕ) (stream part : ℕ) (s out : List ℕ) where
           after-turn
           ∙ ap (λ (r : FieldListRead). onList (refused m out) r (λ fs. stepped overlayEncoder m out (encodeBlock (encoderOf m) stream part fs (length out)))) e
 
+-- the call's numbers, and the stream and the part that they name
+pub same-call : (m : List ℕ) (stream x part n : ℕ) (s out : List ℕ) → stream ≡ x → part ≡ n → (answer : Answer) (memory output : List ℕ)
+    → Tells (blockCall m x n s out) answer memory output → Tells (blockCall m stream part s out) answer memory output
+same-call m stream x part n s out a b answer memory output t = rw (a, b) t
+
 -- ---- a block in turn whose list reads well
 
-pub record Ready (m : List ℕ) (stream part : ℕ) (s : List ℕ) : Type 0 where
+pub record Ready (m : List ℕ) (stream : ℕ) (part : Part) (s : List ℕ) : Type 0 where
   pub small : Small m
   pub forms : formsEncoder m ≡ true
-  pub turn : partTurn (encoderOf m .written) stream (partOf part) ≡ true
+  pub turn : partTurn (encoderOf m .written) stream (some part) ≡ true
   pub fields : List Field
   pub read : readFieldList s ≡ list fields
 
-module _ {m : List ℕ} {stream part : ℕ} {s : List ℕ} (R : Ready m stream part s) where
+module _ {m : List ℕ} {stream : ℕ} {part : Part} {s : List ℕ} (R : Ready m stream part s) where
   abbrev E : Encoder
   E = encoderOf m
 
@@ -144,7 +134,7 @@ module _ {m : List ℕ} {stream part : ℕ} {s : List ℕ} (R : Ready m stream p
   abbrev size : ℕ
   size = length (blockWire rs)
 
-  pub its-turn : InTurn (E .written) stream part
+  pub its-turn : (stream < streams) × (inTurn (E .written) stream part ≡ true)
   its-turn = in-turn (E .written) stream part (R .turn)
 
   pub long-memory : 16960 ≤ length m
@@ -152,42 +142,42 @@ module _ {m : List ℕ} {stream part : ℕ} {s : List ℕ} (R : Ready m stream p
 
   module _ (out : List ℕ) where
     abbrev write : Outcome Encoder
-    write = writePart E stream (partAt part) rs (length out)
+    write = writePart E stream part rs (length out)
 
-    encoded : encodeBlock E stream part (R .fields) (length out) ≡ write
+    encoded : encodeBlock E stream (partNumber part) (R .fields) (length out) ≡ write
     unfolding encodeBlock encodePart
     encoded =
-        ap (λ (o : Option Part). encodePart E stream o (R .fields) (length out)) (its-turn .is)
-        ∙ need-true (ltb stream streams) _ _ (lt-ltb stream streams (its-turn .below))
-        ∙ need-true (inTurn (E .written) stream (partAt part)) _ _ (its-turn .turn)
-        ∙ ap (λ (r : FieldListRead). writePart E stream (partAt part) (map (choose (E .entries)) (fieldsIn r)) (length out)) (sym (R .read))
+        ap (λ (o : Option Part). encodePart E stream o (R .fields) (length out)) (part-is part)
+        ∙ need-true (ltb stream streams) _ _ (lt-ltb stream streams (its-turn .0))
+        ∙ need-true (inTurn (E .written) stream part) _ _ (its-turn .1)
+        ∙ ap (λ (r : FieldListRead). writePart E stream part (map (choose (E .entries)) (fieldsIn r)) (length out)) (sym (R .read))
 
-    call : blockCall m stream part s out ≡ stepped overlayEncoder m out write
+    call : blockCall m stream (partNumber part) s out ≡ stepped overlayEncoder m out write
     call =
-        after-turn m stream part s out (R .forms) (R .turn)
-        ∙ ap (λ (r : FieldListRead). onList (refused m out) r (λ fs. stepped overlayEncoder m out (encodeBlock E stream part fs (length out)))) (R .read)
+        after-turn m stream (partNumber part) s out (R .forms) (ap (partTurn (E .written) stream) (part-is part) ∙ R .turn)
+        ∙ ap (λ (r : FieldListRead). onList (refused m out) r (λ fs. stepped overlayEncoder m out (encodeBlock E stream (partNumber part) fs (length out)))) (R .read)
         ∙ ap (stepped overlayEncoder m out) encoded
 
-    refuses : (number : ℕ) → write ≡ refuse E number → blockCall m stream part s out ≡ refused m out number
+    refuses : (number : ℕ) → write ≡ refuse E number → blockCall m stream (partNumber part) s out ≡ refused m out number
     unfolding stepped outputBytes
     refuses number e =
         call
         ∙ ap (stepped overlayEncoder m out) e
         ∙ ap (λ (l : List ℕ). refused l out number) (overlay-self-encoder E m (forms-holds-encoder m (R .small) (R .forms)))
 
-    too-long : 16384 < size → blockCall m stream part s out ≡ refused m out 13
+    too-long : 16384 < size → blockCall m stream (partNumber part) s out ≡ refused m out 13
     unfolding writePart
     too-long h = refuses 13 (need-false (leb size 16384) _ _ (lt-leb size 16384 h))
 
-    no-room : size ≤ 16384 → length out < size → blockCall m stream part s out ≡ refused m out 12
+    no-room : size ≤ 16384 → length out < size → blockCall m stream (partNumber part) s out ≡ refused m out 12
     unfolding writePart
     no-room short h =
         refuses 12 (need-true (leb size 16384) _ _ (le-leb size 16384 short) ∙ need-false (leb size (length out)) _ _ (lt-leb size (length out) h))
 
     -- by the room's answer: it refuses, or there is room
-    pub not-fitting : (number : ℕ) → number ≡ roomAnswer size (length out) → (number ≡ 0 → ⊥) → blockCall m stream part s out ≡ refused m out number
+    pub not-fitting : (number : ℕ) → number ≡ roomAnswer size (length out) → (number ≡ 0 → ⊥) → blockCall m stream (partNumber part) s out ≡ refused m out number
     not-fitting number e n =
-        room-ways size (length out) (λ (k : ℕ). number ≡ k → blockCall m stream part s out ≡ refused m out number)
+        room-ways size (length out) (λ (k : ℕ). number ≡ k → blockCall m stream (partNumber part) s out ≡ refused m out number)
         (λ short room d. absurd (n d))
         (λ long d. too-long long ∙ ap (refused m out) (sym d))
         (λ short lacks d. no-room short lacks ∙ ap (refused m out) (sym d))
@@ -201,9 +191,9 @@ module _ {m : List ℕ} {stream part : ℕ} {s : List ℕ} (R : Ready m stream p
         (λ short lacks d. absurd (omega arith))
         e
 
-    given : size ≤ 16384 → size ≤ length out → blockCall m stream part s out ≡ record {
+    given : size ≤ 16384 → size ≤ length out → blockCall m stream (partNumber part) s out ≡ record {
       answer = done size 0;
-      memory = cleared (entered m stream part rs) (64 + 512 * part) stream;
+      memory = cleared (entered m stream part rs) (marksPlace part) stream;
       output = overlay out 0 (blockWire rs);
     }
     unfolding writePart stepped outputBytes
@@ -212,8 +202,7 @@ module _ {m : List ℕ} {stream part : ℕ} {s : List ℕ} (R : Ready m stream p
         ∙ ap (stepped overlayEncoder m out)
         (need-true (leb size 16384) _ _ (le-leb size 16384 short) ∙ need-true (leb size (length out)) _ _ (le-leb size (length out) room))
         ∙ ap (λ (l : List ℕ). record { answer = done size 0; memory = l; output = overlay out 0 (blockWire rs) })
-        (sym (entered-written m (R .small) (R .forms) stream (its-turn .below) part rs)
-        ∙ ap (λ (at : ℕ). cleared (entered m stream part rs) at stream) (its-turn .place))
+        (sym (entered-written m (R .small) (R .forms) stream (its-turn .0) part rs))
 
     -- the same of memory and output after a step that leaves both
     module _ (m′ out′ : List ℕ) (em : m′ ≡ m) (eo : out′ ≡ out) where
@@ -233,10 +222,10 @@ module _ {m : List ℕ} {stream part : ℕ} {s : List ℕ} (R : Ready m stream p
     -- the call's result, by what its steps leave
     module _ (short : size ≤ 16384) (room : size ≤ length out) (refers : List ℕ) (e : refers ≡ entered m stream part rs) where
       pub refers-length : length refers ≡ length m
-      refers-length = ap length e ∙ entered-length m (R .small) (R .forms) stream (its-turn .below) part rs
+      refers-length = ap length e ∙ entered-length m (R .small) (R .forms) stream (its-turn .0) part rs
 
-      pub gives : (n : ℕ) → n ≡ size → (answer : Answer) (marked new : List ℕ) (place : ℕ) → answer ≡ done n 0 → place ≡ 64 + 512 * part
-          → marked ≡ cleared refers place stream → new ≡ overlay out 0 (blockWire rs) → Tells (blockCall m stream part s out) answer marked new
+      pub gives : (n : ℕ) → n ≡ size → (answer : Answer) (marked new : List ℕ) (place : ℕ) → answer ≡ done n 0 → place ≡ marksPlace part
+          → marked ≡ cleared refers place stream → new ≡ overlay out 0 (blockWire rs) → Tells (blockCall m stream (partNumber part) s out) answer marked new
       gives n is answer marked new place a p c o =
           tells _ _ (given short room) answer marked new (a ∙ ap (λ (k : ℕ). done k 0) is)
           (c ∙ ap₂ (λ (l : List ℕ) (at : ℕ). cleared l at stream) e p) o

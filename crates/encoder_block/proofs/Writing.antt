@@ -14,7 +14,7 @@ use Rattle.fields.specs.Form.{Field, FineField}
 use Rattle.fields.specs.Reading.{FieldListRead, list, readFieldList}
 use Rattle.blocks.specs.Representation.{Representation, FineRepresentation, representationWire, blockWire}
 use Rattle.blocks.proofs.Writing.{block-wire-nil, block-wire-cons}
-use Rattle.model.specs.Parts.{streams}
+use Rattle.model.specs.Parts.{Part, streams}
 use Rattle.model.specs.Encoder.{Sent, FormsEncoder, choose}
 use Rattle.state.specs.EncoderState.{encoderOf}
 use Rattle.state.specs.Forms.{formsEncoder}
@@ -30,7 +30,7 @@ use Rattle.encoder_block.proofs.Choices.{entered-forms, entered-chooses
 
 -- ---- with the mode: memory and output are changed only where `write` says so
 
-module _ (m₀ : List ℕ) (small : Small m₀) (forms : formsEncoder m₀ ≡ true) (stream : ℕ) (below : stream < streams) (part : ℕ) where
+module _ (m₀ : List ℕ) (small : Small m₀) (forms : formsEncoder m₀ ≡ true) (stream : ℕ) (below : stream < streams) (part : Part) where
   abbrev pub after : Bool → List Representation → List ℕ
   after write rs = pick write (entered m₀ stream part rs) m₀
 
@@ -74,7 +74,7 @@ over-more false out to r rs = refl
 
 -- ---- how far the pass is: memory m and output out, the place `to` after what was passed, the list read up to `at`
 
-pub record Progress (m₀ : List ℕ) (stream part : ℕ) (s out₀ : List ℕ) (write : Bool) (m out : List ℕ) (to at : ℕ) : Type 0 where
+pub record Progress (m₀ : List ℕ) (stream : ℕ) (part : Part) (s out₀ : List ℕ) (write : Bool) (m out : List ℕ) (to at : ℕ) : Type 0 where
   pub done : List Representation
   pub rest : List Field
   pub left : Left s at rest
@@ -86,12 +86,12 @@ pub record Progress (m₀ : List ℕ) (stream part : ℕ) (s out₀ : List ℕ) 
   pub bytes : over write out₀ 0 (blockWire (representationsOf m₀ s)) ≡ over write out to (blockWire (map (choose (encoderOf m₀ .entries)) rest))
 
 -- what the pass leaves
-abbrev pub Passed : List ℕ → ℕ → ℕ → List ℕ → List ℕ → Bool → ℕ → List ℕ → List ℕ → Type 0
+abbrev pub Passed : List ℕ → ℕ → Part → List ℕ → List ℕ → Bool → ℕ → List ℕ → List ℕ → Type 0
 Passed m₀ stream part s out₀ write n m out =
     (n ≡ capped (length (blockWire (representationsOf m₀ s))))
     × ((m ≡ pick write (entered m₀ stream part (representationsOf m₀ s)) m₀) × (out ≡ pick write (overlay out₀ 0 (blockWire (representationsOf m₀ s))) out₀))
 
-module _ (m₀ : List ℕ) (small : Small m₀) (forms : formsEncoder m₀ ≡ true) (stream : ℕ) (below : stream < streams) (part : ℕ) (s out₀ : List ℕ) (write : Bool) where
+module _ (m₀ : List ℕ) (small : Small m₀) (forms : formsEncoder m₀ ≡ true) (stream : ℕ) (below : stream < streams) (part : Part) (s out₀ : List ℕ) (write : Bool) where
   abbrev l : List Sent
   l = encoderOf m₀ .entries
 
@@ -193,7 +193,7 @@ module _ (m₀ : List ℕ) (small : Small m₀) (forms : formsEncoder m₀ ≡ t
             )
 
 -- a pass keeps lengths
-module _ (m₀ : List ℕ) (small : Small m₀) (forms : formsEncoder m₀ ≡ true) (stream : ℕ) (below : stream < streams) (part : ℕ) (s out₀ : List ℕ) (write : Bool)
+module _ (m₀ : List ℕ) (small : Small m₀) (forms : formsEncoder m₀ ≡ true) (stream : ℕ) (below : stream < streams) (part : Part) (s out₀ : List ℕ) (write : Bool)
     (n : ℕ) (m out : List ℕ) (p : Passed m₀ stream part s out₀ write n m out) where
   pub passed-memory : length m ≡ length m₀
   passed-memory = ap length (p .1 .0) ∙ after-length m₀ small forms stream below part write (representationsOf m₀ s)
@@ -207,7 +207,7 @@ module _ (m : List ℕ) (small : Small m) (forms : formsEncoder m ≡ true) (f :
   state : FormsEncoder (encoderOf m)
   state = encoder-laws .fits m small forms .forms
 
-  pub choice-low : (stream : ℕ) → stream < streams → (part : ℕ) → InTable choice
+  pub choice-low : (stream : ℕ) → stream < streams → (part : Part) → InTable choice
   choice-low stream below part =
       held-low m small forms stream below part f choice
       (subst (λ (r : Representation). AllHeld (encoderOf m .entries) (r ∷ [])) (sym e) (all-held (encoderOf m) state (f ∷ []) (fine, tt)))

@@ -1,10 +1,10 @@
 // The block call: 17, 11, the list (16, 13), block length 13, 12. Nothing is written before all of these have passed.
 ghost use mathlib.Core.Path.{_≡_};
 ghost use mathlib.Core.Bool.{true};
-ghost use Rattle.model.specs.Parts.{partOf};
+ghost use mathlib.Core.Option.{some};
 ghost use Rattle.state.specs.EncoderState.{encoderOf};
 ghost use Rattle.state.specs.Forms.{formsEncoder};
-ghost use Rattle.parts.specs.Turn.{partTurn};
+ghost use Rattle.parts.specs.Turn.{partTurn, partIn, caseNumber};
 ghost use Rattle.reply.specs.Reply.{answerOf};
 ghost use Rattle.encoder.specs.Calls.{blockCall};
 ghost use Rattle.encoder_fields.specs.Measure.{ReadsWell};
@@ -15,28 +15,27 @@ use integers::answer::NO_STATE;
 use integers::answer::OUT_OF_TURN;
 use integers::number::StreamNumber;
 use marks::mark::clear;
-use parts::in_turn;
-use parts::marks_place;
+use parts::turn::Part;
+use parts::turn::Turn;
+use parts::turn::marks_place;
+use parts::turn::turn_of;
 use reply::Reply;
 use state::encoder::forms_encoder;
 
 // A block in turn whose list reads well: 13, 12, or its bytes, its references, and its part written.
-fn give(m: &mut [u8], stream: u64, part: u64, s: &[u8], out: &mut [u8]) -> Reply
-    requires { ⌜ (formsEncoder (now m) ≡ true) × (partTurn (encoderOf (now m) .written) stream (partOf part) ≡ true) ⌝ }
+fn give(m: &mut [u8], stream: StreamNumber, part: Part, s: &[u8], out: &mut [u8]) -> Reply
+    requires { ⌜ (formsEncoder (now m) ≡ true) × (partTurn (encoderOf (now m) .written) (stream .value) (some (partIn part)) ≡ true) ⌝ }
     requires { ⌜ ReadsWell (now s) ⌝ }
-    ensures { λ r. ⌜ answerOf r ≡ blockCall (now (m .entry)) stream part (now (s .entry)) (now (out .entry)) .answer ⌝ }
-    ensures { λ _. ⌜ now (m .exit) ≡ blockCall (now (m .entry)) stream part (now (s .entry)) (now (out .entry)) .memory ⌝ }
-    ensures { λ _. ⌜ now (out .exit) ≡ blockCall (now (m .entry)) stream part (now (s .entry)) (now (out .entry)) .output ⌝ }
+    ensures { λ r. ⌜ answerOf r ≡ blockCall (now (m .entry)) (stream .value) (caseNumber part) (now (s .entry)) (now (out .entry)) .answer ⌝ }
+    ensures { λ _. ⌜ now (m .exit) ≡ blockCall (now (m .entry)) (stream .value) (caseNumber part) (now (s .entry)) (now (out .entry)) .memory ⌝ }
+    ensures { λ _. ⌜ now (out .exit) ≡ blockCall (now (m .entry)) (stream .value) (caseNumber part) (now (s .entry)) (now (out .entry)) .output ⌝ }
 {
-    let number = StreamNumber {
-        value: stream as u16,
-    };
-    let answer = room_answer(m, number, part, s, out);
+    let answer = room_answer(m, stream, part, s, out);
     if answer != 0 {
         return Reply::refused(answer);
     }
-    let n = write_list(m, number, part, s, out, true);
-    clear(m, marks_place(part), number);
+    let n = write_list(m, stream, part, s, out, true);
+    clear(m, marks_place(part), stream);
     Reply::done(n as u32, 0)
 }
 
@@ -48,12 +47,13 @@ pub fn block(m: &mut [u8], stream: u64, part: u64, s: &[u8], out: &mut [u8]) -> 
     if !forms_encoder(m) {
         return Reply::refused(NO_STATE);
     }
-    if !in_turn(m, stream, part) {
+    let turn = turn_of(m, stream, part);
+    let Turn::Of(number, kind) = turn else {
         return Reply::refused(OUT_OF_TURN);
-    }
+    };
     let checked = check_list(s);
     if checked != 0 {
         return Reply::refused(checked);
     }
-    give(m, stream, part, s, out)
+    give(m, number, kind, s, out)
 }

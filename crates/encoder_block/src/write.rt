@@ -10,6 +10,7 @@ ghost use Rattle.blocks.specs.Representation.{representationWire, blockWire};
 ghost use Rattle.model.specs.Encoder.{choose};
 ghost use Rattle.state.specs.EncoderState.{encoderOf};
 ghost use Rattle.state.specs.Forms.{formsEncoder};
+ghost use Rattle.parts.specs.Turn.{partIn};
 ghost use Rattle.encoder_fields.specs.Measure.{InField, ReadsWell, representationsOf, capped, roomAnswer};
 ghost use Rattle.encoder_fields.specs.Refer.{entered, enteredBy};
 use crate::refer::enter_choice;
@@ -22,12 +23,19 @@ use fields::read::field_at;
 use integers::answer::NO_ROOM;
 use integers::answer::TOO_LONG;
 use integers::number::StreamNumber;
+use parts::turn::Part;
+
+// The length told of a block that is too long: one more than a block may have.
+const OVER: usize = BLOCK_LIMIT + 1;
+
+// A list of so many bytes has a block that is not too long: a block takes at most twice the bytes of its list.
+const SHORT_LIST: usize = BLOCK_LIMIT / 2;
 
 // One field: the place after its representation, if that stands at the place `at`. Where `write` says so it is written there, and its reference entered.
 fn write_field(
     m: &mut [u8],
     stream: StreamNumber,
-    part: u64,
+    part: Part,
     s: &[u8],
     f: FieldPlace,
     out: &mut [u8],
@@ -38,7 +46,7 @@ fn write_field(
     requires { ⌜ InField (now s) f ⌝ }
     requires { ⌜ (write ≡ true → at + length (representationWire (choose (encoderOf (now m) .entries) (fieldOf (now s) f))) ≤ length (now out)) ⌝ }
     ensures { λ r. ⌜ r ≡ at + length (representationWire (choose (encoderOf (now (m .entry)) .entries) (fieldOf (now (s .entry)) f))) ⌝ }
-    ensures { λ _. ⌜ now (m .exit) ≡ pick write (enteredBy (now (m .entry)) (stream .value) part (choose (encoderOf (now (m .entry)) .entries) (fieldOf (now (s .entry)) f))) (now (m .entry)) ⌝ }
+    ensures { λ _. ⌜ now (m .exit) ≡ pick write (enteredBy (now (m .entry)) (stream .value) (partIn part) (choose (encoderOf (now (m .entry)) .entries) (fieldOf (now (s .entry)) f))) (now (m .entry)) ⌝ }
     ensures { λ _. ⌜ now (out .exit) ≡ pick write (overlay (now (out .entry)) at (representationWire (choose (encoderOf (now (m .entry)) .entries) (fieldOf (now (s .entry)) f)))) (now (out .entry)) ⌝ }
 {
     let choice = choose_field(m, s, f);
@@ -50,11 +58,12 @@ fn write_field(
 }
 
 // The whole list, which reads well: the length of its block, counted up to one more than a block may have. Where `write` says so the block stands at the
-// front of the output then, and its references are entered.
+// front of the output then, and its references are entered. One function does both: a second one would repeat the loop and the proof
+// that both passes choose alike, and would save no more than the test of `write` at each field.
 pub fn write_list(
     m: &mut [u8],
     stream: StreamNumber,
-    part: u64,
+    part: Part,
     s: &[u8],
     out: &mut [u8],
     write: bool,
@@ -63,7 +72,7 @@ pub fn write_list(
     requires { ⌜ ReadsWell (now s) ⌝ }
     requires { ⌜ (write ≡ true → (length (blockWire (representationsOf (now m) (now s))) ≤ 16384) × (length (blockWire (representationsOf (now m) (now s))) ≤ length (now out))) ⌝ }
     ensures { λ n. ⌜ n ≡ capped (length (blockWire (representationsOf (now (m .entry)) (now (s .entry))))) ⌝ }
-    ensures { λ _. ⌜ now (m .exit) ≡ pick write (entered (now (m .entry)) (stream .value) part (representationsOf (now (m .entry)) (now (s .entry)))) (now (m .entry)) ⌝ }
+    ensures { λ _. ⌜ now (m .exit) ≡ pick write (entered (now (m .entry)) (stream .value) (partIn part) (representationsOf (now (m .entry)) (now (s .entry)))) (now (m .entry)) ⌝ }
     ensures { λ _. ⌜ now (out .exit) ≡ pick write (overlay (now (out .entry)) 0 (blockWire (representationsOf (now (m .entry)) (now (s .entry))))) (now (out .entry)) ⌝ }
 {
     let mut to: usize = 0;
@@ -72,7 +81,7 @@ pub fn write_list(
         let f = field_at(s, at);
         to = write_field(m, stream, part, s, f, out, to, write);
         if BLOCK_LIMIT < to {
-            return 16_385;
+            return OVER;
         }
         let value = f.value;
         at = value.start + value.length;
@@ -80,15 +89,15 @@ pub fn write_list(
     to
 }
 
-// Whether the list's block may be written: 0, or the answer's number. A block takes at most twice the bytes of its list, so that a short list is not measured.
-pub fn room_answer(m: &mut [u8], stream: StreamNumber, part: u64, s: &[u8], out: &mut [u8]) -> u8
+// Whether the list's block may be written: 0, or the answer's number. A short list is not measured: twice its bytes are room enough.
+pub fn room_answer(m: &mut [u8], stream: StreamNumber, part: Part, s: &[u8], out: &mut [u8]) -> u8
     requires { ⌜ (formsEncoder (now m) ≡ true) × (stream .value < 4096) ⌝ }
     requires { ⌜ ReadsWell (now s) ⌝ }
     ensures { λ r. ⌜ r ≡ roomAnswer (length (blockWire (representationsOf (now (m .entry)) (now (s .entry))))) (length (now (out .entry))) ⌝ }
     ensures { λ _. ⌜ now (m .exit) ≡ now (m .entry) ⌝ }
     ensures { λ _. ⌜ now (out .exit) ≡ now (out .entry) ⌝ }
 {
-    if s.len() <= 8_192 {
+    if s.len() <= SHORT_LIST {
         if 2 * s.len() <= out.len() {
             return 0;
         }

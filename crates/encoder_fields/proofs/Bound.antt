@@ -11,9 +11,9 @@ use Rattle.memory.specs.Choice.{pick}
 use Rattle.memory.specs.Bytes.{Small}
 use Rattle.memory.proofs.Order.{split, pick-both, need-true, need-false}
 use Rattle.wire.specs.Name.{indexed as by-index, literal as by-bytes}
-use Rattle.statics.specs.Search.{findName, findBoth}
-use Rattle.statics.specs.declared.search.StaticFound.{StaticFound}
-use Rattle.statics.specs.declared.search.StaticFound.the-variants.{At, Nothing}
+use Rattle.static_search.specs.Search.{findName, findBoth}
+use Rattle.static_search.specs.declared.search.StaticFound.{StaticFound}
+use Rattle.static_search.specs.declared.search.StaticFound.the-variants.{At, Nothing}
 use Rattle.fields.specs.Form.{Field, FineField, AllFine, fieldForm, fieldSize, listForm}
 use Rattle.fields.specs.Reading.{FieldListRead, list, readFieldList}
 use Rattle.fields.proofs.Sizes.{fieldForm-length}

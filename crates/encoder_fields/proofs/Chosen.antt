@@ -10,10 +10,10 @@ use lib.Dec.{eqb, lit≤}
 use lib.ListN.{length}
 use Rattle.memory.proofs.Order.{pick-both}
 use Rattle.wire.specs.Name.{Name, indexed as by-index, literal as by-bytes}
-use Rattle.statics.specs.Search.{findName, findBoth}
-use Rattle.statics.specs.declared.search.StaticFound.{StaticFound}
-use Rattle.statics.specs.declared.search.StaticFound.the-variants.{At, Nothing}
-use Rattle.statics.proofs.Finding.{name-found, both-found}
+use Rattle.static_search.specs.Search.{findName, findBoth}
+use Rattle.static_search.specs.declared.search.StaticFound.{StaticFound}
+use Rattle.static_search.specs.declared.search.StaticFound.the-variants.{At, Nothing}
+use Rattle.static_search.proofs.Finding.{name-found, both-found}
 use Rattle.fields.specs.Form.{Field, FineField, AllFine as AllFineFields}
 use Rattle.blocks.specs.Representation.{Representation, indexed, literal, FineRepresentation, AllFine}
 use Rattle.blocks.specs.Meaning.{references, blockReferences}
@@ -59,6 +59,9 @@ module _ (E : Encoder) (F : FormsEncoder E) where
       go : (o : StaticFound) → findName name ≡ o → NameKnown (staticName l name o)
       go (At j) h = let w = name-found name 61 1 j h in static-known (j .value) (omega (arith, w .low)) (omega (arith, w .high))
       go Nothing h = dynamic (lowest sentIndex (serves name) l) refl
+
+  pub index-known : (name : List ℕ) → length name ≤ 255 → (i : ℕ) → by-index i ≡ chooseName l name → (0 < i) × (i ≤ 189)
+  index-known name short i e = let known = subst NameKnown (sym e) (name-known name short) in (known .low, known .high)
 
   -- ---- representations
 

@@ -1,4 +1,5 @@
-// A field of a list: the choice of its representation, measured and written.
+// The choice of a name, and that of a field's representation, measured and written.
 pub mod choice;
 pub mod measure;
+pub mod name;
 pub mod write;

@@ -19,8 +19,8 @@ pub fn choice_size(choice: Choice, s: &[u8], f: FieldPlace) -> usize
     let name = f.name;
     let value = f.value;
     match choice {
-        Choice::Indexed(i) => indexed_size(i.value),
-        Choice::Named(i) => literal_index_size(i.value, value.length),
+        Choice::Indexed(i) => indexed_size(i),
+        Choice::Named(i) => literal_index_size(i, value.length),
         Choice::Literal => literal_text_size(name.length, value.length),
     }
 }

@@ -1,3 +1,2 @@
--- The choice of a name, and what the ways of the insert call leave.
-pub mod Naming
+-- What the ways of the insert call leave.
 pub mod Inserting

@@ -11,9 +11,9 @@ ghost use Rattle.deletes.specs.Deletes.{unreferred};
 ghost use Rattle.reply.specs.Reply.{answerOf};
 ghost use Rattle.encoder.specs.Calls.{insertCall};
 ghost use Rattle.encoder_insert.specs.Steps.{Fitting, fittingInsert};
-use crate::choice::NameChoice;
-use crate::choice::choose_name;
 use deletes::references::unrefer;
+use encoder_fields::name::NameChoice;
+use encoder_fields::name::choose_name;
 use instructions::write::write_insert_index;
 use instructions::write::write_insert_text;
 use integers::answer::FULL;
@@ -22,16 +22,14 @@ use integers::answer::NO_STATE;
 use integers::answer::OVER_LIMIT;
 use integers::answer::TOO_LONG;
 use integers::number::TableIndex;
-use memory::number::u16_at;
 use reply::Reply;
 use sizes::insert_index_size;
 use sizes::insert_text_size;
 use state::encoder::forms_encoder;
-use state::layout::COUNT;
-use state::layout::FIRST_INDEX;
-use state::layout::HELD;
-use state::layout::LIMIT;
+use state::head::count_of;
+use state::layout::ENTRY_SIZE;
 use state::layout::PLACES;
+use table_rows::fits;
 use table_search::find::lowest_vacant;
 use wire::text::NAME_LIMIT;
 use wire::text::VALUE_LIMIT;
@@ -56,12 +54,10 @@ fn insert_fitting(m: &mut [u8], name: &[u8], value: &[u8], out: &mut [u8]) -> Re
 {
     let choice = choose_name(m, name);
     let place = lowest_vacant(m);
-    let index = TableIndex {
-        value: FIRST_INDEX + (place as u32),
-    };
+    let index = TableIndex::new(TableIndex::FIRST + (place as u32));
     match choice {
         NameChoice::Index(i) => {
-            let n = insert_index_size(index.value, i.value, value.len());
+            let n = insert_index_size(index, i, value.len());
             if out.len() < n {
                 return Reply::refused(NO_ROOM);
             }
@@ -70,7 +66,7 @@ fn insert_fitting(m: &mut [u8], name: &[u8], value: &[u8], out: &mut [u8]) -> Re
             Reply::done(n as u32, index.value)
         }
         NameChoice::Bytes => {
-            let n = insert_text_size(index.value, name.len(), value.len());
+            let n = insert_text_size(index, name.len(), value.len());
             if out.len() < n {
                 return Reply::refused(NO_ROOM);
             }
@@ -95,11 +91,11 @@ pub fn insert(m: &mut [u8], name: &[u8], value: &[u8], out: &mut [u8]) -> Reply
     if VALUE_LIMIT < value.len() {
         return Reply::refused(TOO_LONG);
     }
-    let size = name.len() + value.len() + 32;
-    if (u16_at(m, LIMIT) as usize) < (u16_at(m, HELD) as usize) + size {
+    let size = name.len() + value.len() + ENTRY_SIZE;
+    if !fits(m, size) {
         return Reply::refused(OVER_LIMIT);
     }
-    if PLACES <= (u16_at(m, COUNT) as usize) {
+    if PLACES <= (count_of(m) as usize) {
         return Reply::refused(FULL);
     }
     insert_fitting(m, name, value, out)

@@ -1,3 +1,2 @@
-// The encoder's insert call, and the choice of a name.
-pub mod choice;
+// The encoder's insert call.
 pub mod insert;

@@ -6,6 +6,7 @@ use lib.ListN.{length}
 use lib.Dec.{ltb}
 use Rattle.memory.specs.Choice.{pick}
 use Rattle.integers.specs.Integer.{groupWire}
+use Rattle.wire.specs.Text.{nameLimit, valueLimit}
 
 -- a header field; the flag 1 says that it is never stored
 pub record Field : Type 0 where
@@ -16,8 +17,8 @@ pub record Field : Type 0 where
 -- "A name has 0 to 255 bytes, a value 0 to 2,047"
 pub record FineField (f : Field) : Type 0 where
   pub flag-bit : f .flag < 2
-  pub name-short : length (f .name) ≤ 255
-  pub value-short : length (f .value) ≤ 2047
+  pub name-short : length (f .name) ≤ nameLimit
+  pub value-short : length (f .value) ≤ valueLimit
 
 -- a length, in one or two groups of seven bits
 abbrev pub lengthForm : ℕ → List ℕ

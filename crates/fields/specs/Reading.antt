@@ -6,6 +6,7 @@ use lib.Dec.{ltb, leb}
 use Rattle.memory.specs.Choice.{pick, need}
 use Rattle.memory.specs.Bytes.{part}
 use Rattle.integers.specs.Answers.{Answer, done, refusal, too-long, bad-field-list}
+use Rattle.wire.specs.Text.{nameLimit, valueLimit}
 use Rattle.fields.specs.Form.{Field}
 use Rattle.fields.specs.declared.read.TextPlace.{TextPlace}
 use Rattle.fields.specs.declared.read.LengthRead.{LengthRead}
@@ -75,8 +76,8 @@ unfoldable pub readField : List ℕ → ℕ → FieldRead
 readField s at =
     need (ltb at (length s)) (Refused bad-field-list)
     (need (leb (getD s at 0) 1) (Refused bad-field-list)
-    (onText Refused (readText s (at + 1) 255) (λ name next.
-    onText Refused (readText s next 2047) (λ value after.
+    (onText Refused (readText s (at + 1) nameLimit) (λ name next.
+    onText Refused (readText s next valueLimit) (λ value after.
     Found (record { flag = getD s at 0; name = name; value = value }) after))))
 
 -- the bytes of a text at a place of s, and the field there

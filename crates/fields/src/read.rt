@@ -1,12 +1,18 @@
 // The field list read from left to right.
 ghost use mathlib.Core.Path.{_≡_};
-ghost use Prim.Native.Nat.{ℕ, _+_, _≤_};
+ghost use Prim.Native.Nat.{ℕ, _+_};
 ghost use lib.ListN.{length};
 ghost use Rattle.fields.specs.Reading.{lengthAnswer, textAnswer, fieldAnswer, fieldListAnswer, readLength, readText, textStart, readField, readFieldList, InText};
 use integers::answer::BAD_FIELD_LIST;
+use integers::answer::DONE;
 use integers::answer::TOO_LONG;
+use integers::byte::wide_size;
+use integers::integer::WireInt;
 use wire::text::NAME_LIMIT;
 use wire::text::VALUE_LIMIT;
+
+// The values of a length's byte: from here on it says that another follows.
+pub const GROUP: usize = WireInt::GROUP as usize;
 
 // Where a name or a value of the list stands.
 pub struct TextPlace {
@@ -44,7 +50,7 @@ impl LengthRead {
         ensures { λ r. ⌜ r ≡ lengthAnswer self .number ⌝ }
     {
         match self {
-            LengthRead::Length(_, _) => 0,
+            LengthRead::Length(_, _) => DONE,
             LengthRead::Refused(number) => number,
         }
     }
@@ -55,7 +61,7 @@ impl TextRead {
         ensures { λ r. ⌜ r ≡ textAnswer self .number ⌝ }
     {
         match self {
-            TextRead::Text(_, _) => 0,
+            TextRead::Text(_, _) => DONE,
             TextRead::Refused(number) => number,
         }
     }
@@ -66,16 +72,10 @@ impl FieldRead {
         ensures { λ r. ⌜ r ≡ fieldAnswer self .number ⌝ }
     {
         match self {
-            FieldRead::Found(_, _) => 0,
+            FieldRead::Found(_, _) => DONE,
             FieldRead::Refused(number) => number,
         }
     }
-}
-
-fn wide(x: u8) -> usize
-    ensures { λ r. ⌜ (r ≡ x) × (r ≤ 255) ⌝ }
-{
-    x as usize
 }
 
 // The length at the place `at`, of at most `limit`.
@@ -85,9 +85,9 @@ fn read_length(s: &[u8], at: usize, limit: usize) -> LengthRead
     if s.len() <= at {
         return LengthRead::Refused(BAD_FIELD_LIST);
     }
-    let low = wide(s[at]);
+    let low = wide_size(s[at]);
     let next = at + 1;
-    if low < 128 {
+    if low < GROUP {
         if limit < low {
             return LengthRead::Refused(TOO_LONG);
         }
@@ -96,14 +96,14 @@ fn read_length(s: &[u8], at: usize, limit: usize) -> LengthRead
     if s.len() <= next {
         return LengthRead::Refused(BAD_FIELD_LIST);
     }
-    let high = wide(s[next]);
-    if 128 <= high {
+    let high = wide_size(s[next]);
+    if GROUP <= high {
         return LengthRead::Refused(TOO_LONG);
     }
     if high == 0 {
         return LengthRead::Refused(BAD_FIELD_LIST);
     }
-    let n = low % 128 + 128 * high;
+    let n = low % GROUP + GROUP * high;
     if limit < n {
         return LengthRead::Refused(TOO_LONG);
     }
@@ -151,17 +151,17 @@ fn text_start(s: &[u8], at: usize) -> TextPlace
     requires { ⌜ InText (now s) (textStart (now s) at) ⌝ }
     ensures { λ r. ⌜ r ≡ textStart (now (s .entry)) at ⌝ }
 {
-    let low = wide(s[at]);
-    if low < 128 {
+    let low = wide_size(s[at]);
+    if low < GROUP {
         return TextPlace {
             start: at + 1,
             length: low,
         };
     }
-    let high = wide(s[at + 1]);
+    let high = wide_size(s[at + 1]);
     TextPlace {
         start: at + 2,
-        length: low % 128 + 128 * high,
+        length: low % GROUP + GROUP * high,
     }
 }
 
@@ -191,5 +191,5 @@ pub fn check_list(s: &[u8]) -> u8
         };
         at = next;
     }
-    0
+    DONE
 }

@@ -26,9 +26,10 @@ fn main() {
 
 // The sample, by its path from the root of the repository.
 fn open_sample() -> i32 {
-    let fd = os::open_read(b"crates/gateway/data/accident.rec");
+    let path = b"crates/gateway/data/accident.rec";
+    let fd = os::open_read(path);
     if fd < 0 {
-        os::fail(b"crates/gateway/data/accident.rec");
+        os::fail(path);
         io::write_all(
             libc::STDERR_FILENO,
             b"usage: gateway [FILE | -], or with no argument in the root of the repository\n",

@@ -1,12 +1,9 @@
 // One recording: its lines, one after another, on two memories.
-use recorded_call::line::Ran;
-use recorded_call::line::run_line;
-use text_io::lines::Next;
+use recorded_lines::Ran;
+use recorded_lines::run_next;
 use text_io::lines::Reader;
-use text_io::lines::next_line;
 use transcript::tally::Tally;
 use transcript::tell::bad_line;
-use transcript::tell::long_line;
 use transcript::tell::summary;
 use transcript::tell::tell;
 
@@ -39,32 +36,22 @@ fn run_lines(
     let mut tally = Tally::new();
     let mut number: u64 = 0;
     while number < u64::MAX {
-        let next = next_line(fd, input, reader);
-        match next {
-            Next::End => {
-                summary(text, number, tally);
-                return;
-            }
-            Next::TooLong(r) => {
-                reader = r;
-                number += 1;
-                long_line(text, number);
-                tally = tally.with_bad();
-            }
-            Next::Line(from, to, r) => {
-                reader = r;
-                number += 1;
-                let ran = run_line(&input[from..to], decoder, encoder, output);
-                tally = told(ran, number, output, text, tally);
-            }
+        let turn = run_next(fd, input, reader, decoder, encoder, output);
+        let ran = turn.ran;
+        if let Ran::End = ran {
+            summary(text, number, tally);
+            return;
         }
+        reader = turn.rest;
+        number += 1;
+        tally = told(ran, number, output, text, tally);
     }
 }
 
 // Tells what became of a line, and counts it.
 fn told(ran: Ran, number: u64, output: &[u8], text: &mut [u8], tally: Tally) -> Tally {
     match ran {
-        Ran::Comment => tally,
+        Ran::Comment | Ran::End => tally,
         Ran::Bad(fault) => {
             bad_line(text, number, fault);
             tally.with_bad()

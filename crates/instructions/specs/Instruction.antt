@@ -3,9 +3,9 @@ use Prim.Native.Nat.{ℕ, _≤_}
 use mathlib.Core.List.{List, _++_}
 use lib.ListN.{length}
 use Rattle.integers.specs.Integer.{largest, intWire}
-use Rattle.wire.specs.Text.{stringWire}
+use Rattle.wire.specs.Text.{valueLimit, stringWire}
 use Rattle.wire.specs.Name.{Name, FineName, nameWire}
-use Rattle.wire.specs.StreamList.{StreamList, Fits, listWire}
+use Rattle.wire.specs.StreamList.{StreamList, horizonLimit, countLimit, Fits, listWire}
 
 pub data Instruction : Type 0 where
   -- "new index, name .., value string"
@@ -21,11 +21,11 @@ FineIndex i = (62 ≤ i) × (i ≤ largest)
 
 -- "Horizon at most 4,096, count at most 16, deltas at least 1, listed streams at most 4,095"
 abbrev pub FineList : StreamList → Type 0
-FineList l = (l .horizon ≤ 4096) × (length (l .streams) ≤ 16) × Fits (l .horizon) (l .streams)
+FineList l = (l .horizon ≤ horizonLimit) × (length (l .streams) ≤ countLimit) × Fits (l .horizon) (l .streams)
 
 -- what can be said on the wire
 abbrev pub FineInstruction : Instruction → Type 0
-FineInstruction (insert i name value) = FineIndex i × FineName name × (length value ≤ 2047)
+FineInstruction (insert i name value) = FineIndex i × FineName name × (length value ≤ valueLimit)
 FineInstruction (delete i nontrailer trailer) = FineIndex i × FineList nontrailer × FineList trailer
 FineInstruction (acknowledge i) = FineIndex i
 

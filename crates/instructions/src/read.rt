@@ -2,6 +2,7 @@
 ghost use mathlib.Core.Path.{_≡_};
 ghost use Prim.Native.Nat.{ℕ, _≤_};
 ghost use Rattle.instructions.specs.Reading.{indexAnswer, instructionAnswer, readIndex, readInsert, readDelete, readAcknowledgement, readForDecoder, readForEncoder};
+use integers::answer::DONE;
 use integers::answer::NOT_ALLOWED;
 use integers::answer::TRUNCATED;
 use integers::integer::IntRead;
@@ -18,8 +19,12 @@ use wire::text::StringRead;
 use wire::text::VALUE_LIMIT;
 use wire::text::read_string;
 
-// The lowest index of the header table.
-pub const FIRST_INDEX: u32 = 62;
+// The first bits of an instruction, in its first byte: 1 for an insert, 01 for an acknowledgement, 00 for a delete.
+pub const INSERT: u8 = 128;
+
+pub const ACKNOWLEDGE: u8 = 64;
+
+pub const DELETE: u8 = 0;
 
 // An instruction as it stands in the bytes.
 pub enum InstructionPlace {
@@ -48,7 +53,7 @@ impl IndexRead {
         ensures { λ r. ⌜ r ≡ indexAnswer self .number ⌝ }
     {
         match self {
-            IndexRead::Index(_, _) => 0,
+            IndexRead::Index(_, _) => DONE,
             IndexRead::Refused(number) => number,
         }
     }
@@ -59,7 +64,7 @@ impl InstructionRead {
         ensures { λ r. ⌜ r ≡ instructionAnswer self .number ⌝ }
     {
         match self {
-            InstructionRead::Found(_, _) => 0,
+            InstructionRead::Found(_, _) => DONE,
             InstructionRead::Refused(number) => number,
         }
     }
@@ -75,10 +80,10 @@ fn read_index(s: &[u8], width: u32) -> IndexRead
         return IndexRead::Refused(r.number());
     };
     let value = n.value;
-    if value < FIRST_INDEX {
+    if value < TableIndex::FIRST {
         return IndexRead::Refused(NOT_ALLOWED);
     }
-    IndexRead::Index(TableIndex { value }, next)
+    IndexRead::Index(TableIndex::new(value), next)
 }
 
 fn read_insert(s: &[u8]) -> InstructionRead
@@ -135,10 +140,10 @@ pub fn read_for_decoder(s: &[u8]) -> InstructionRead
         return InstructionRead::Refused(TRUNCATED);
     }
     let first = s[0];
-    if 128 <= first {
+    if INSERT <= first {
         return read_insert(s);
     }
-    if 64 <= first {
+    if ACKNOWLEDGE <= first {
         return InstructionRead::Refused(NOT_ALLOWED);
     }
     read_delete(s)
@@ -152,10 +157,10 @@ pub fn read_for_encoder(s: &[u8]) -> InstructionRead
         return InstructionRead::Refused(TRUNCATED);
     }
     let first = s[0];
-    if 128 <= first {
+    if INSERT <= first {
         return InstructionRead::Refused(NOT_ALLOWED);
     }
-    if first < 64 {
+    if first < ACKNOWLEDGE {
         return InstructionRead::Refused(NOT_ALLOWED);
     }
     read_acknowledgement(s)

@@ -6,6 +6,7 @@ ghost use lib.ListN.{length};
 ghost use Rattle.memory.specs.Bytes.{overlay};
 ghost use Rattle.wire.specs.Name.{Name};
 ghost use Rattle.instructions.specs.Instruction.{Instruction, FineInstruction, instructionWire};
+use crate::read;
 use integers::integer::WireInt;
 use integers::number::TableIndex;
 use wire::name::write_name_index;
@@ -13,12 +14,12 @@ use wire::name::write_name_text;
 use wire::stream_list::write_list;
 use wire::text::write_string;
 
-// The bits before an index: 1 for an insert, 00 for a delete, 01 for an acknowledgement.
-const INSERT: u32 = 128;
+// The bits before an index, as a reader finds them.
+const INSERT: u32 = read::INSERT as u32;
 
-const DELETE: u32 = 0;
+const ACKNOWLEDGE: u32 = read::ACKNOWLEDGE as u32;
 
-const ACKNOWLEDGE: u32 = 64;
+const DELETE: u32 = read::DELETE as u32;
 
 // An insert with its name by index.
 pub fn write_insert_index(

@@ -15,6 +15,10 @@ use Rattle.integers.specs.declared.integer.ShortInt.the-variants.{Value 
 abbrev pub largest : ℕ
 largest = 134217727
 
+-- "A message stream, 0 to 4,095"
+abbrev pub lastStream : ℕ
+lastStream = 4095
+
 -- what is answered: the value and the place after it are told
 abbrev pub intAnswer : IntRead → Answer
 intAnswer (Value n next) = done (n .value) next

@@ -4,8 +4,10 @@ ghost use Prim.Native.Nat.{ℕ, _+_, _*_, _^_, _<_, _≤_};
 ghost use lib.ListN.{length};
 ghost use Rattle.memory.specs.Bytes.{overlay};
 ghost use Rattle.integers.specs.Integer.{intAnswer, readInt, groups, largest, shortIntAt, intWire, groupWire};
+use crate::answer::DONE;
 use crate::answer::TOO_LARGE;
 use crate::answer::TRUNCATED;
+use crate::byte::wide;
 
 // A number that a prefix integer can say.
 pub struct WireInt {
@@ -29,16 +31,10 @@ impl IntRead {
         ensures { λ r. ⌜ r ≡ intAnswer self .number ⌝ }
     {
         match self {
-            IntRead::Value(_, _) => 0,
+            IntRead::Value(_, _) => DONE,
             IntRead::Refused(number) => number,
         }
     }
-}
-
-fn wide(x: u8) -> u32
-    ensures { λ r. ⌜ r ≡ x ⌝ }
-{
-    x as u32
 }
 
 fn power(width: u32) -> u32
@@ -57,7 +53,11 @@ impl WireInt {
     pub const PREFIX8: u32 = 8;
 
     // A prefix of all ones, after which groups follow: the first value that takes more than one byte.
+    pub const ONES6: u32 = (1 << Self::PREFIX6) - 1;
+
     pub const ONES7: u32 = (1 << Self::PREFIX7) - 1;
+
+    pub const ONES8: u32 = (1 << Self::PREFIX8) - 1;
 
     // The values of a group: a byte from here on says that another follows.
     pub const GROUP: u32 = 128;
@@ -85,7 +85,7 @@ impl WireInt {
         let first = wide(s[at]) % full;
         let next = at + 1;
         if first < full - 1 {
-            return IntRead::Value(WireInt { value: first }, next);
+            return IntRead::Value(Self::new(first), next);
         }
         Self::read_groups(s, next, first)
     }
@@ -132,7 +132,7 @@ impl WireInt {
             next += 1;
             if b < Self::GROUP {
                 if value <= Self::LARGEST {
-                    return IntRead::Value(WireInt { value }, next);
+                    return IntRead::Value(Self::new(value), next);
                 }
                 return IntRead::Refused(TOO_LARGE);
             }

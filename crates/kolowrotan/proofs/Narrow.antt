@@ -1,6 +1,6 @@
 -- The second told number of every call's answer is small, so that the answer packs into one number.
 -- By the tests in their order: it is 0, but for the hold enquiry, which tells a stream or 4,096.
-use mathlib.Core.Path.{_≡_, refl, sym, subst}
+use mathlib.Core.Path.{_≡_, sym, subst}
 use Prim.Native.Nat.{ℕ, _+_}
 use native.Mathlib.Omega.{arith}
 use mathlib.Core.Bool.{Bool, true, false, not}
@@ -92,7 +92,7 @@ hold-narrow D i =
   where
     go : (o : Option Delete) → Narrow (holdOf D o .answer)
     go none = omega arith
-    go (some d) = omega (arith, lowest-low (D .finished) d _ refl)
+    go (some d) = omega (arith, lowest-low (D .finished) d)
 
 collect-narrow : (D : Decoder) (room : ℕ) → Narrow (collectEntry D room .answer)
 unfolding collectEntry freeEntry

@@ -84,13 +84,21 @@ pub fn part_name(text: &mut [u8], n: usize, part: u64) -> usize {
     number(text, a, part)
 }
 
+// That the line of this number is no call.
+pub fn not_a_call(text: &mut [u8], n: usize, line: u64) -> usize {
+    let a = words(text, n, b"line ");
+    let b = number(text, a, line);
+    words(text, b, b": not a call")
+}
+
 // Why a line is no call.
 pub fn fault_name(text: &mut [u8], n: usize, fault: Fault) -> usize {
     let table = b"no such call\n\
         a number is missing, or is none of 0 to 2^64 - 1\n\
         bytes are missing, are no pairs of hexadecimal digits, or are more than 20,000\n\
         the room is no number of 0 to 65,536\n\
-        more words than the call has\n";
+        more words than the call has\n\
+        longer than 65,535 characters\n";
     entry(text, n, table, fault_number(fault))
 }
 
@@ -101,5 +109,6 @@ fn fault_number(fault: Fault) -> usize {
         Fault::NoBytes => 2,
         Fault::BadRoom => 3,
         Fault::MoreWords => 4,
+        Fault::TooLong => 5,
     }
 }

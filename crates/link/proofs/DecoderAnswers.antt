@@ -158,7 +158,7 @@ hold-says D i none = refusal-says (enquiring i) D not-under-deletion tt
 hold-says D i (some d) =
     both-say (enquiring i) D (openBelow (D .finished) d streams) (lowestOpen (D .finished) d 0 streams) nothing refl
     (λ e. nope (cc)) (λ e. nope (cc)) tt
-    (omega (arith, count-few (D .finished) d _ refl)) (omega (arith, lowest-low (D .finished) d _ refl))
+    (omega (arith, count-few (D .finished) d _ refl)) (omega (arith, lowest-low (D .finished) d))
 
 -- ---- every call
 

@@ -14,11 +14,11 @@ use Rattle.memory.proofs.Order.{split, pick-both}
 use Rattle.memory.proofs.Sameness.{same-eq, eq-same}
 use Rattle.wire.specs.Name.{indexed, literal}
 use Rattle.statics.specs.Table.{Entry}
-use Rattle.statics.specs.Search.{findName, findBoth}
-use Rattle.statics.specs.declared.search.StaticFound.{StaticFound}
-use Rattle.statics.specs.declared.search.StaticFound.the-variants.{At, Nothing}
-use Rattle.statics.proofs.Finding.{name-found, name-nothing, both-found, both-nothing}
-use Rattle.statics.proofs.Finding as finding
+use Rattle.static_search.specs.Search.{findName, findBoth}
+use Rattle.static_search.specs.declared.search.StaticFound.{StaticFound}
+use Rattle.static_search.specs.declared.search.StaticFound.the-variants.{At, Nothing}
+use Rattle.static_search.proofs.Finding.{name-found, name-nothing, both-found, both-nothing}
+use Rattle.static_search.proofs.Finding as finding
 use Rattle.fields.specs.Form.{Field, FineField, AllFine}
 use Rattle.blocks.specs.Representation as representation
 use Rattle.blocks.specs.Meaning.{holds}

@@ -7,7 +7,7 @@ use Rattle.wire.specs.Text.{stringBytes, stringAfter, readString, stringWire}
 use Rattle.wire.specs.Name.{readName, nameWire}
 use Rattle.wire.specs.StreamList.{readDelta, readDeltas, streamsFrom, readList, names, listed, listWire, deltasWire}
 use Rattle.statics.specs.Table.{entries, entryAt}
-use Rattle.statics.specs.Search.{hasName, hasBoth, lowestStatic as lowest-static, lowestName, lowestBoth}
+use Rattle.static_search.specs.Search.{hasName, hasBoth, lowestStatic as lowest-static, lowestName, lowestBoth}
 use Rattle.fields.specs.Form.{textForm, fieldForm, listForm}
 use Rattle.fields.specs.Reading.{readLength, readText, readField, fieldsFrom}
 use Rattle.instructions.specs.Instruction.{instructionWire}

@@ -3,6 +3,8 @@ ghost use mathlib.Core.Path.{_≡_};
 ghost use Prim.Native.Nat.{ℕ, _+_, _≤_};
 ghost use lib.ListN.{length};
 ghost use Rattle.marks.specs.Marks.{isSet, countFrom, lowestFrom};
+use crate::mark::BYTE;
+use crate::mark::WORD;
 use crate::mark::power;
 use memory::number::u64_at;
 
@@ -13,12 +15,12 @@ pub fn count_below(m: &[u8], at: usize, end: usize) -> usize
 {
     let mut count: usize = 0;
     let mut s: usize = 0;
-    while 64 <= end - s {
-        count += u64::count_ones(u64_at(m, at + s / 8)) as usize;
-        s += 64;
+    while WORD <= end - s {
+        count += u64::count_ones(u64_at(m, at + s / BYTE)) as usize;
+        s += WORD;
     }
     if s < end {
-        let word = u64_at(m, at + s / 8) % power((end - s) as u32);
+        let word = u64_at(m, at + s / BYTE) % power((end - s) as u32);
         count += u64::count_ones(word) as usize;
     }
     count
@@ -31,7 +33,7 @@ pub fn lowest_below(m: &[u8], at: usize, end: usize) -> usize
 {
     let mut s: usize = 0;
     while s < end {
-        let word = u64_at(m, at + s / 8);
+        let word = u64_at(m, at + s / BYTE);
         if word != 0 {
             let lowest = s + (u64::trailing_zeros(word) as usize);
             if lowest < end {
@@ -39,7 +41,7 @@ pub fn lowest_below(m: &[u8], at: usize, end: usize) -> usize
             }
             return end;
         }
-        s += 64;
+        s += WORD;
     }
     end
 }

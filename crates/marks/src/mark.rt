@@ -9,8 +9,17 @@ use integers::number::StreamNumber;
 use memory::number::put_u64;
 use memory::number::u64_at;
 
-// The bytes of the marks of all 4,096 streams.
-pub const MARKS: usize = 512;
+// The streams of a byte and of a word, a word's bytes, and the words of all streams.
+pub const BYTE: usize = 8;
+
+pub const WORD: usize = 64;
+
+const WORD_BYTES: usize = 8;
+
+const WORDS: usize = 64;
+
+// A word in which every stream is marked.
+const ALL: u64 = 18_446_744_073_709_551_615;
 
 // The bit of a stream in its word.
 pub fn power(k: u32) -> u64
@@ -26,8 +35,8 @@ pub fn is_set(m: &[u8], at: usize, stream: StreamNumber) -> bool
     ensures { λ r. ⌜ r ≡ isSet (now (m .entry)) at (stream .value) ⌝ }
 {
     let s = stream.value as usize;
-    let word = u64_at(m, at + 8 * (s / 64));
-    word / power((s % 64) as u32) % 2 == 1
+    let word = u64_at(m, at + WORD_BYTES * (s / WORD));
+    word / power((s % WORD) as u32) % 2 == 1
 }
 
 // Takes the stream's mark away, if it is there.
@@ -39,9 +48,9 @@ pub fn clear(m: &mut [u8], at: usize, stream: StreamNumber)
         return;
     }
     let s = stream.value as usize;
-    let place = at + 8 * (s / 64);
+    let place = at + WORD_BYTES * (s / WORD);
     let word = u64_at(m, place);
-    put_u64(m, place, word - power((s % 64) as u32));
+    put_u64(m, place, word - power((s % WORD) as u32));
 }
 
 // Marks every stream.
@@ -50,8 +59,8 @@ pub fn set_all(m: &mut [u8], at: usize)
     ensures { λ _. ⌜ now (m .exit) ≡ overlay (now (m .entry)) at (wordsBytes (λ s. true) 0 64) ⌝ }
 {
     let mut w: usize = 0;
-    while w < 64 {
-        put_u64(m, at + 8 * w, 18_446_744_073_709_551_615);
+    while w < WORDS {
+        put_u64(m, at + WORD_BYTES * w, ALL);
         w += 1;
     }
 }

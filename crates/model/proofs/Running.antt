@@ -8,7 +8,7 @@ use Rattle.wire.specs.Text.{stringWire}
 use Rattle.wire.specs.Name.{nameWire}
 use Rattle.wire.specs.StreamList.{names, listed, listWire, deltasWire}
 use Rattle.statics.specs.Table.{entries, entryAt}
-use Rattle.statics.specs.Search.{hasName, hasBoth, lowestStatic as lowest-static, lowestName, lowestBoth}
+use Rattle.static_search.specs.Search.{hasName, hasBoth, lowestStatic as lowest-static, lowestName, lowestBoth}
 use Rattle.fields.specs.Form.{textForm, fieldForm, listForm}
 use Rattle.instructions.specs.Instruction.{instructionWire}
 use Rattle.blocks.specs.Representation.{representationWire, blockWire}

@@ -13,9 +13,9 @@ use Rattle.integers.specs.Integer.{largest}
 use Rattle.wire.specs.Name.{Name, indexed as by-index, literal as by-bytes}
 use Rattle.wire.specs.StreamList.{StreamList}
 use Rattle.statics.specs.Table.{Entry}
-use Rattle.statics.specs.Search.{findName, findBoth}
-use Rattle.statics.specs.declared.search.StaticFound.{StaticFound}
-use Rattle.statics.specs.declared.search.StaticFound.the-variants.{At, Nothing}
+use Rattle.static_search.specs.Search.{findName, findBoth}
+use Rattle.static_search.specs.declared.search.StaticFound.{StaticFound}
+use Rattle.static_search.specs.declared.search.StaticFound.the-variants.{At, Nothing}
 use Rattle.fields.specs.Form.{Field}
 use Rattle.instructions.specs.Instruction.{Instruction, insert, delete, instructionWire}
 use Rattle.blocks.specs.Representation.{Representation, indexed, literal, blockWire}

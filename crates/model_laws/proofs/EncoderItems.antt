@@ -14,10 +14,10 @@ use Rattle.memory.proofs.Order.{split, pick-both, pick-true, pick-false}
 use Rattle.memory.proofs.Sameness.{same-eq}
 use Rattle.wire.specs.Name.{Name, indexed as by-index, literal as by-bytes}
 use Rattle.statics.specs.Table.{Entry, entryAt}
-use Rattle.statics.specs.Search.{findName, findBoth}
-use Rattle.statics.specs.declared.search.StaticFound.{StaticFound}
-use Rattle.statics.specs.declared.search.StaticFound.the-variants.{At, Nothing}
-use Rattle.statics.proofs.Finding.{name-found, both-found}
+use Rattle.static_search.specs.Search.{findName, findBoth}
+use Rattle.static_search.specs.declared.search.StaticFound.{StaticFound}
+use Rattle.static_search.specs.declared.search.StaticFound.the-variants.{At, Nothing}
+use Rattle.static_search.proofs.Finding.{name-found, both-found}
 use Rattle.fields.specs.Form.{Field, AllFine}
 use Rattle.blocks.specs.Representation.{Representation, indexed, literal}
 use Rattle.blocks.specs.Meaning.{isStatic}

@@ -11,10 +11,10 @@ use lib.Dec.{eqb}
 use Rattle.memory.proofs.Order.{pick-both}
 use Rattle.integers.specs.Integer.{largest}
 use Rattle.wire.specs.Name.{FineName}
-use Rattle.statics.specs.Search.{findName, findBoth}
-use Rattle.statics.specs.declared.search.StaticFound.{StaticFound}
-use Rattle.statics.specs.declared.search.StaticFound.the-variants.{At, Nothing}
-use Rattle.statics.proofs.Finding.{name-found, both-found}
+use Rattle.static_search.specs.Search.{findName, findBoth}
+use Rattle.static_search.specs.declared.search.StaticFound.{StaticFound}
+use Rattle.static_search.specs.declared.search.StaticFound.the-variants.{At, Nothing}
+use Rattle.static_search.proofs.Finding.{name-found, both-found}
 use Rattle.fields.specs.Form.{Field}
 use Rattle.fields.specs.Form as form
 use Rattle.instructions.specs.Instruction.{Instruction, insert, delete, acknowledge, FineIndex, Manages, FineInstruction}

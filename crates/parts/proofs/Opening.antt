@@ -9,12 +9,14 @@ use mathlib.Core.List.{List}
 use borrow.Author.Tests.{lt-ltb}
 use Rattle.memory.specs.Choice.{pick}
 use Rattle.marks.specs.Marks.{isSet, countFrom, lowestFrom}
-use Rattle.marks.proofs.Counting.{count-le, count-same, count-split, lowest-same, lowest-word}
+use Rattle.marks.proofs.Counting.{count-le, count-same, count-split, lowest-same, lowest-word, lowest-le}
 use Rattle.model.specs.Parts.{Part, nontrailer, trailer, Marks, Delete, namesPart, isOpen, openBelow, lowestOpen, streams}
-use Rattle.state.specs.Layout.{marksPlace, deletePlace}
+use Rattle.state.specs.Layout.{marksPlace, nontrailerList, trailerList}
 use Rattle.state.specs.Front.{marksOf}
 use Rattle.state.specs.DecoderState.{listAt, deleteAt}
-use Rattle.parts.specs.Hold.{namedMarked}
+use Rattle.parts.specs.Hold.{namedMarked, lowestCase, lowestTold}
+use Rattle.parts.specs.declared.hold.Lowest.{Lowest}
+use Rattle.parts.proofs.Telling.{told-back}
 
 -- ---- both kinds
 
@@ -90,17 +92,34 @@ module _ (m : List ℕ) (d : Delete) where
       both-lowest (marksOf m) d 0 streams
       ∙ ap₂ min (lowest-same _ _ 0 streams nontrailer-open) (lowest-same _ _ 0 streams trailer-open)
 
--- ---- delete k, at its place: x and y are what was found for the two lists
+-- ---- delete k, whose lists stand at these places
 
-module _ (m : List ℕ) (k at : ℕ) (place : at ≡ deletePlace k) (x y : ℕ) where
-  pub delete-count : x ≡ countFrom (namedMarked (isSet m (marksPlace nontrailer)) (listAt m (at + 4))) 0 streams
-      → y ≡ countFrom (namedMarked (isSet m (marksPlace trailer)) (listAt m (at + 40))) 0 streams
+module _ (m : List ℕ) (k at to : ℕ) (e : at ≡ nontrailerList k) (f : to ≡ trailerList k) where
+  pub delete-count : (x y : ℕ) → x ≡ countFrom (namedMarked (isSet m (marksPlace nontrailer)) (listAt m at)) 0 streams
+      → y ≡ countFrom (namedMarked (isSet m (marksPlace trailer)) (listAt m to)) 0 streams
       → x + y ≡ openBelow (marksOf m) (deleteAt m k) streams
   unfolding deleteAt
-  delete-count e f = rw (e, f, place) (sym (open-count m (deleteAt m k)))
+  delete-count x y n t = rw (n, t, e, f) (sym (open-count m (deleteAt m k)))
 
-  pub delete-lowest : x ≡ lowestFrom (namedMarked (isSet m (marksPlace nontrailer)) (listAt m (at + 4))) 0 streams
-      → y ≡ lowestFrom (namedMarked (isSet m (marksPlace trailer)) (listAt m (at + 40))) 0 streams
-      → min x y ≡ lowestOpen (marksOf m) (deleteAt m k) 0 streams
+  abbrev First : ℕ
+  First = lowestFrom (namedMarked (isSet m (marksPlace nontrailer)) (listAt m at)) 0 streams
+
+  abbrev Second : ℕ
+  Second = lowestFrom (namedMarked (isSet m (marksPlace trailer)) (listAt m to)) 0 streams
+
+  lower-one : lowestOpen (marksOf m) (deleteAt m k) 0 streams ≡ min First Second
   unfolding deleteAt
-  delete-lowest e f = rw (e, f, place) (sym (open-lowest m (deleteAt m k)))
+  lower-one = rw (e, f) (open-lowest m (deleteAt m k))
+
+  module _ (x y : Lowest) (n : x ≡ lowestCase First) (t : y ≡ lowestCase Second) where
+    told-first : lowestTold x ≡ First
+    told-first = ap lowestTold n ∙ told-back First (omega (arith, lowest-le (namedMarked (isSet m (marksPlace nontrailer)) (listAt m at)) 0 streams))
+
+    told-second : lowestTold y ≡ Second
+    told-second = ap lowestTold t ∙ told-back Second (omega (arith, lowest-le (namedMarked (isSet m (marksPlace trailer)) (listAt m to)) 0 streams))
+
+    pub first-lower : lowestTold x < lowestTold y → x ≡ lowestCase (lowestOpen (marksOf m) (deleteAt m k) 0 streams)
+    first-lower h = n ∙ ap lowestCase (omega (arith, told-first, told-second, lower-one))
+
+    pub second-lower : lowestTold y ≤ lowestTold x → y ≡ lowestCase (lowestOpen (marksOf m) (deleteAt m k) 0 streams)
+    second-lower h = t ∙ ap lowestCase (omega (arith, told-first, told-second, lower-one))

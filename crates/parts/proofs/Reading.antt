@@ -10,8 +10,9 @@ use lib.ListN.{length}
 use Rattle.memory.specs.Choice.{pick}
 use Rattle.memory.specs.Numbers.{number}
 use Rattle.memory.proofs.Order.{pick-true, pick-false}
+use Rattle.integers.specs.declared.number.StreamNumber.{StreamNumber}
 use Rattle.wire.specs.StreamList.{Fits}
-use Rattle.state.specs.Layout.{deletePlace}
+use Rattle.state.specs.Layout.{nontrailerList, trailerList, listedPlace, listedCountAt}
 use Rattle.state.specs.DecoderState.{streamsAt, listAt, deleteAt}
 use Rattle.parts.specs.Hold.{GoodDelete, Listed, Named, listedCount, listedLowest}
 
@@ -30,11 +31,11 @@ module _ (m : List ℕ) where
       rw e (streams-below (number 2 m at) n (at + 2) (f .2) j (omega arith))
 
   -- the streams of a list
-  pub list-streams : (marks at k : ℕ) → k ≡ number 2 m (at + 2) → Named m marks at → Listed m marks k (at + 4)
+  pub list-streams : (marks at k place : ℕ) → k ≡ listedCountAt m at → place ≡ listedPlace at → Named m marks at → Listed m marks k place
   unfolding listAt
-  list-streams marks at k e n =
+  list-streams marks at k place e d n =
       let few : number 2 m (at + 2) ≤ 16 = omega (arith, length-streamsAt (number 2 m (at + 2)) (at + 4), n .fine .1) in
-      rw e (record {
+      rw (e, d) (record {
         few = few;
         within = omega (arith, n .within);
         marked = n .marked;
@@ -42,19 +43,19 @@ module _ (m : List ℕ) where
       })
 
   -- the lists of a delete, against any marks in the front
-  pub nontrailer-list : (marks k at : ℕ) → marks ≤ 576 → at ≡ deletePlace k → GoodDelete m k → Named m marks (at + 4)
+  pub nontrailer-list : (marks k at : ℕ) → marks ≤ 576 → at ≡ nontrailerList k → GoodDelete m k → Named m marks at
   unfolding deleteAt
   nontrailer-list marks k at h e d =
       let long = d .long in
       let few = d .few in
-      record { within = omega arith; marked = omega arith; fine = rw e (d .nontrailer) }
+      record { low = omega arith; within = omega arith; marked = omega arith; fine = rw e (d .nontrailer) }
 
-  pub trailer-list : (marks k at : ℕ) → marks ≤ 576 → at ≡ deletePlace k → GoodDelete m k → Named m marks (at + 40)
+  pub trailer-list : (marks k at : ℕ) → marks ≤ 576 → at ≡ trailerList k → GoodDelete m k → Named m marks at
   unfolding deleteAt
   trailer-list marks k at h e d =
       let long = d .long in
       let few = d .few in
-      record { within = omega arith; marked = omega arith; fine = rw e (d .trailer) }
+      record { low = omega arith; within = omega arith; marked = omega arith; fine = rw e (d .trailer) }
 
 -- ---- what is left to read after i of the k streams from the place at on
 
@@ -81,22 +82,22 @@ module _ (m : List ℕ) (g : ℕ → Bool) (k at : ℕ) where
     unfolding listedLowest
     lowest-done h = ap (listedLowest g) (done h)
 
-    module _ (x : ℕ) (read : x ≡ number 2 m (at + 2 * i)) (h : i < k) where
-      more : streamsAt (k - i) m (at + 2 * i) ≡ x ∷ streamsAt (k - (i + 1)) m (at + 2 * (i + 1))
+    module _ (x : StreamNumber) (read : x ≡ record { value = number 2 m (at + 2 * i) }) (h : i < k) where
+      more : streamsAt (k - i) m (at + 2 * i) ≡ x .value ∷ streamsAt (k - (i + 1)) m (at + 2 * (i + 1))
       unfolding streamsAt
       more =
           let e : k - i ≡ suc (k - (i + 1)) = omega arith in
           let d : at + 2 * i + 2 ≡ at + 2 * (i + 1) = omega arith in
           ap (λ (n : ℕ). streamsAt n m (at + 2 * i)) e ∙ rw (d, read) refl
 
-      pub count-more : listedCount g (streamsAt (k - i) m (at + 2 * i)) ≡ pick (g x) 1 0 + listedCount g (streamsAt (k - (i + 1)) m (at + 2 * (i + 1)))
+      pub count-more : listedCount g (streamsAt (k - i) m (at + 2 * i)) ≡ pick (g (x .value)) 1 0 + listedCount g (streamsAt (k - (i + 1)) m (at + 2 * (i + 1)))
       unfolding listedCount
       count-more = ap (listedCount g) more
 
-      pub lowest-here : g x ≡ true → listedLowest g (streamsAt (k - i) m (at + 2 * i)) ≡ x
+      pub lowest-here : g (x .value) ≡ true → listedLowest g (streamsAt (k - i) m (at + 2 * i)) ≡ x .value
       unfolding listedLowest
-      lowest-here e = ap (listedLowest g) more ∙ pick-true (g x) x _ e
+      lowest-here e = ap (listedLowest g) more ∙ pick-true (g (x .value)) (x .value) _ e
 
-      pub lowest-more : g x ≡ false → listedLowest g (streamsAt (k - i) m (at + 2 * i)) ≡ listedLowest g (streamsAt (k - (i + 1)) m (at + 2 * (i + 1)))
+      pub lowest-more : g (x .value) ≡ false → listedLowest g (streamsAt (k - i) m (at + 2 * i)) ≡ listedLowest g (streamsAt (k - (i + 1)) m (at + 2 * (i + 1)))
       unfolding listedLowest
-      lowest-more e = ap (listedLowest g) more ∙ pick-false (g x) x _ e
+      lowest-more e = ap (listedLowest g) more ∙ pick-false (g (x .value)) (x .value) _ e

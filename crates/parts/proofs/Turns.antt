@@ -1,17 +1,21 @@
 -- Which part is in turn, by the marks in memory: one law for each way through the test.
 -- By the tests of stream and part number: a set bit is a part that is not finished.
-use mathlib.Core.Path.{_≡_, refl, ap, ap₂, _∙_}
+use mathlib.Core.Path.{_≡_, refl, sym, ap, ap₂, _∙_}
 use Prim.Native.Nat.{ℕ, _≤_, _<_}
 use mathlib.Core.Bool.{Bool, true, false, not, _&&_}
 use mathlib.Core.Option.{Option, none, some}
 use mathlib.Core.List.{List}
 use borrow.Author.Tests.{lt-ltb, le-ltb, eq-eqb, ne-eqb}
+use Rattle.memory.specs.Choice.{pick}
 use Rattle.memory.proofs.Order.{pick-true, pick-false}
+use Rattle.integers.specs.declared.number.StreamNumber.{StreamNumber}
 use Rattle.marks.specs.Marks.{isSet}
 use Rattle.model.specs.Parts.{Part, nontrailer, trailer, Marks, partOf, inTurn, streams}
 use Rattle.state.specs.Layout.{marksPlace}
 use Rattle.state.specs.Front.{marksOf}
-use Rattle.parts.specs.Turn.{partTurn}
+use Rattle.parts.specs.Turn.{partTurn, caseOf, turnOf}
+use Rattle.parts.specs.declared.turn.Turn.{Turn}
+use Rattle.parts.specs.declared.turn.Turn.the-variants.{Of, Out}
 
 -- ---- part numbers
 
@@ -59,26 +63,66 @@ module _ (m : List ℕ) (s : ℕ) (fits : s < streams) where
 -- ---- each way through the test
 
 module _ (m : List ℕ) (s n : ℕ) where
-  abbrev Turn : Bool
-  Turn = partTurn (marksOf m) s (partOf n)
+  abbrev Test : Bool
+  Test = partTurn (marksOf m) s (partOf n)
 
-  pub turn-above : streams ≤ s → Turn ≡ false
+  pub turn-above : streams ≤ s → Test ≡ false
   turn-above h = above (marksOf m) s (partOf n) h
 
-  pub turn-no-part : (n ≡ 0 → ⊥) → (n ≡ 1 → ⊥) → Turn ≡ false
+  pub turn-no-part : (n ≡ 0 → ⊥) → (n ≡ 1 → ⊥) → Test ≡ false
   unfolding partTurn
   turn-no-part z o = ap (partTurn (marksOf m) s) (no-part n z o)
 
   module _ (fits : s < streams) where
-    pub turn-nontrailer : n ≡ 0 → Turn ≡ isSet m (marksPlace nontrailer) s
+    pub turn-nontrailer : n ≡ 0 → Test ≡ isSet m (marksPlace nontrailer) s
     turn-nontrailer e = ap (partTurn (marksOf m) s) (nontrailer-part n e) ∙ below (marksOf m) s nontrailer fits ∙ nontrailer-turn m s fits
 
-    trailer-both : n ≡ 1 → Turn ≡ not (isSet m (marksPlace nontrailer) s) && isSet m (marksPlace trailer) s
+    trailer-both : n ≡ 1 → Test ≡ not (isSet m (marksPlace nontrailer) s) && isSet m (marksPlace trailer) s
     trailer-both e = ap (partTurn (marksOf m) s) (trailer-part n e) ∙ below (marksOf m) s trailer fits ∙ trailer-turn m s fits
 
     -- "a trailer before its non-trailer"
-    pub turn-early : n ≡ 1 → isSet m (marksPlace nontrailer) s ≡ true → Turn ≡ false
+    pub turn-early : n ≡ 1 → isSet m (marksPlace nontrailer) s ≡ true → Test ≡ false
     turn-early e waiting = trailer-both e ∙ ap (λ (b : Bool). not b && isSet m (marksPlace trailer) s) waiting
 
-    pub turn-trailer : n ≡ 1 → isSet m (marksPlace nontrailer) s ≡ false → Turn ≡ isSet m (marksPlace trailer) s
+    pub turn-trailer : n ≡ 1 → isSet m (marksPlace nontrailer) s ≡ false → Test ≡ isSet m (marksPlace trailer) s
     turn-trailer e done = trailer-both e ∙ ap (λ (b : Bool). not b && isSet m (marksPlace trailer) s) done
+
+-- ---- the answer, by the test
+
+module _ (m : List ℕ) (s n : ℕ) where
+  abbrev Answer : Turn
+  Answer = turnOf (marksOf m) s (partOf n)
+
+  out : (q : Option Part) → partTurn (marksOf m) s q ≡ false → turnOf (marksOf m) s q ≡ Out
+  unfolding turnOf
+  out none e = refl
+  out (some p) e = pick-false _ _ _ e
+
+  pub above-out : streams ≤ s → Answer ≡ Out
+  above-out h = out (partOf n) (turn-above m s n h)
+
+  pub no-part-out : (n ≡ 0 → ⊥) → (n ≡ 1 → ⊥) → Answer ≡ Out
+  no-part-out z o = out (partOf n) (turn-no-part m s n z o)
+
+  -- the stream as a type, and what was found of its marks
+  module _ (x : StreamNumber) (new : x ≡ record { value = s }) (fits : s < streams) where
+    of : (p : Part) (b : Bool) → partOf n ≡ some p → Test m s n ≡ b → Answer ≡ pick b (Of x (caseOf p)) Out
+    unfolding turnOf
+    of p b e d =
+        rw new (ap (turnOf (marksOf m) s) e ∙ ap (λ (t : Bool). pick t (Of (record { value = s }) (caseOf p)) Out) (sym (ap (partTurn (marksOf m) s) e) ∙ d))
+
+    module _ (waiting : Bool) (w : waiting ≡ isSet m (marksPlace nontrailer) (x .value)) where
+      at-s : waiting ≡ isSet m (marksPlace nontrailer) s
+      at-s = w ∙ ap (λ (y : StreamNumber). isSet m (marksPlace nontrailer) (y .value)) new
+
+      pub nontrailer-answer : n ≡ 0 → Answer ≡ pick waiting (Of x (caseOf nontrailer)) Out
+      nontrailer-answer e = of nontrailer waiting (nontrailer-part n e) (turn-nontrailer m s n fits e ∙ sym at-s)
+
+      pub early-out : n ≡ 1 → waiting ≡ true → Answer ≡ Out
+      early-out e d = out (partOf n) (turn-early m s n fits e (sym at-s ∙ d))
+
+      pub trailer-answer : n ≡ 1 → waiting ≡ false → (last : Bool) → last ≡ isSet m (marksPlace trailer) (x .value)
+          → Answer ≡ pick last (Of x (caseOf trailer)) Out
+      trailer-answer e d last o =
+          of trailer last (trailer-part n e)
+          (turn-trailer m s n fits e (sym at-s ∙ d) ∙ sym (o ∙ ap (λ (y : StreamNumber). isSet m (marksPlace trailer) (y .value)) new))

@@ -4,9 +4,6 @@ ghost use mathlib.Core.List.{_++_};
 ghost use lib.ListN.{take, drop};
 ghost use Rattle.reply.specs.Reply.{answerOf};
 ghost use Rattle.recorded_call.specs.Performed.{performed};
-
-pub mod line;
-
 use recording::Call;
 use recording::Kind;
 use reply::Reply;

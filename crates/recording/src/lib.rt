@@ -34,13 +34,14 @@ pub struct Call {
     pub room: usize,
 }
 
-// Why a line is no call.
+// Why a line is no call; `TooLong` is said of one that its reader does not hold.
 pub enum Fault {
     NoSuchCall,
     NoNumber,
     NoBytes,
     BadRoom,
     MoreWords,
+    TooLong,
 }
 
 // What a line says.
@@ -61,6 +62,18 @@ struct Shape {
 enum Named {
     Known(Kind),
     Unknown,
+}
+
+// What reading a word as a number finds: the number, and the place after the word.
+enum NumberAt {
+    Value(u64, usize),
+    Bad,
+}
+
+// What reading a word as bytes finds: the place after the last one put, and the place after the word.
+enum BytesAt {
+    Put(usize, usize),
+    Bad,
 }
 
 // What reading the numbers finds: the numbers, and the place after them.
@@ -162,29 +175,47 @@ pub fn has_output(kind: Kind) -> bool {
     s.output
 }
 
+// The number that the first word from the place `at` on says.
+fn read_number(text: &[u8], at: usize) -> NumberAt {
+    let w = next_word(text, at);
+    let from = w.from;
+    let to = w.to;
+    let r = tokens::number(&text[from..to]);
+    let NumberRead::Value(n) = r else {
+        return NumberAt::Bad;
+    };
+    NumberAt::Value(n, to)
+}
+
 // The numbers of a call that has so many, from the place `at` on.
 fn read_numbers(count: u8, text: &[u8], at: usize) -> NumbersRead {
     if count == 0 {
         return NumbersRead::Read(0, 0, at);
     }
-    let w = next_word(text, at);
-    let from = w.from;
-    let to = w.to;
-    let a = tokens::number(&text[from..to]);
-    let NumberRead::Value(first) = a else {
+    let a = read_number(text, at);
+    let NumberAt::Value(first, next) = a else {
         return NumbersRead::Bad;
     };
     if count == 1 {
-        return NumbersRead::Read(first, 0, to);
+        return NumbersRead::Read(first, 0, next);
     }
-    let v = next_word(text, to);
-    let start = v.from;
-    let end = v.to;
-    let b = tokens::number(&text[start..end]);
-    let NumberRead::Value(second) = b else {
+    let b = read_number(text, next);
+    let NumberAt::Value(second, after) = b else {
         return NumbersRead::Bad;
     };
-    NumbersRead::Read(first, second, end)
+    NumbersRead::Read(first, second, after)
+}
+
+// The bytes that the first word from the place `at` on says: put into `bytes`, from the place `to` on.
+fn read_bytes(text: &[u8], at: usize, bytes: &mut [u8], to: usize) -> BytesAt {
+    let w = next_word(text, at);
+    let start = w.from;
+    let end = w.to;
+    let r = tokens::bytes(&text[start..end], bytes, to);
+    let BytesRead::Put(filled) = r else {
+        return BytesAt::Bad;
+    };
+    BytesAt::Put(filled, end)
 }
 
 // The bytes of a call that has so many words of them, from the place `at` on: put into `bytes`.
@@ -192,45 +223,37 @@ fn read_strings(count: u8, text: &[u8], at: usize, bytes: &mut [u8]) -> StringsR
     if count == 0 {
         return StringsRead::Read(0, 0, at);
     }
-    let w = next_word(text, at);
-    let from = w.from;
-    let to = w.to;
-    let a = tokens::bytes(&text[from..to], bytes, 0);
-    let BytesRead::Put(split) = a else {
+    let a = read_bytes(text, at, bytes, 0);
+    let BytesAt::Put(split, next) = a else {
         return StringsRead::Bad;
     };
     if count == 1 {
-        return StringsRead::Read(split, split, to);
+        return StringsRead::Read(split, split, next);
     }
-    let v = next_word(text, to);
-    let start = v.from;
-    let end = v.to;
-    let b = tokens::bytes(&text[start..end], bytes, split);
-    let BytesRead::Put(after) = b else {
+    let b = read_bytes(text, next, bytes, split);
+    let BytesAt::Put(end, after) = b else {
         return StringsRead::Bad;
     };
-    StringsRead::Read(split, after, end)
+    StringsRead::Read(split, end, after)
 }
 
 // The room at the end of the line, from the place `at` on. Only a call with an output can name one, and nothing can follow it.
 fn read_room(output: bool, text: &[u8], at: usize) -> RoomRead {
     let w = next_word(text, at);
-    let from = w.from;
-    let to = w.to;
-    if from == to {
+    if w.from == w.to {
         return RoomRead::Lent(MOST_ROOM);
     }
     if !output {
         return RoomRead::Bad(Fault::MoreWords);
     }
-    let r = tokens::number(&text[from..to]);
-    let NumberRead::Value(room) = r else {
+    let r = read_number(text, w.from);
+    let NumberAt::Value(room, after) = r else {
         return RoomRead::Bad(Fault::BadRoom);
     };
     if (MOST_ROOM as u64) < room {
         return RoomRead::Bad(Fault::BadRoom);
     }
-    let v = next_word(text, to);
+    let v = next_word(text, after);
     if v.from < v.to {
         return RoomRead::Bad(Fault::MoreWords);
     }

@@ -1,13 +1,15 @@
 // What is printed of a line.
+use integers::answer::DONE;
+use labels::not_a_call;
 use recording::Kind;
 use recording::has_output;
 use reply::Reply;
 use text_io::print;
 
-pub fn not_a_call(text: &mut [u8], n: usize, number: u64) -> usize {
-    let a = print::words(text, n, b"line ");
-    let b = print::number(text, a, number);
-    print::words(text, b, b": not a call\n")
+// A line that is no call.
+pub fn bad_line(text: &mut [u8], n: usize, number: u64) -> usize {
+    let a = not_a_call(text, n, number);
+    print::byte(text, a, b'\n')
 }
 
 // The answer with the told numbers, and what a done call wrote.
@@ -15,7 +17,7 @@ pub fn outcome(kind: Kind, r: Reply, output: &[u8], text: &mut [u8], n: usize) -
     let a = print::number(text, n, r.number as u64);
     let b = told(text, a, r.first);
     let c = told(text, b, r.second);
-    if r.number == 0 && has_output(kind) {
+    if r.number == DONE && has_output(kind) {
         let d = written(output, r.first as usize, text, c);
         return print::byte(text, d, b'\n');
     }

@@ -1,11 +1,9 @@
 // One recording: its lines, one after another, on two memories.
-use crate::outcome::not_a_call;
+use crate::outcome::bad_line;
 use crate::outcome::outcome;
-use recorded_call::line::Ran;
-use recorded_call::line::run_line;
-use text_io::lines::Next;
+use recorded_lines::Ran;
+use recorded_lines::run_next;
 use text_io::lines::Reader;
-use text_io::lines::next_line;
 use text_io::print;
 
 pub fn run(fd: i32) {
@@ -38,20 +36,14 @@ fn run_lines(
     let mut n: usize = 0;
     let mut number: u64 = 0;
     while number < u64::MAX {
-        number += 1;
-        let next = next_line(fd, input, reader);
-        match next {
-            Next::End => return n,
-            Next::TooLong(r) => {
-                reader = r;
-                n = not_a_call(text, n, number);
-            }
-            Next::Line(from, to, r) => {
-                reader = r;
-                let ran = run_line(&input[from..to], decoder, encoder, output);
-                n = told(ran, number, output, text, n);
-            }
+        let turn = run_next(fd, input, reader, decoder, encoder, output);
+        let ran = turn.ran;
+        if let Ran::End = ran {
+            return n;
         }
+        reader = turn.rest;
+        number += 1;
+        n = told(ran, number, output, text, n);
     }
     n
 }
@@ -59,8 +51,8 @@ fn run_lines(
 // Prints what became of a line.
 fn told(ran: Ran, number: u64, output: &[u8], text: &mut [u8], n: usize) -> usize {
     match ran {
-        Ran::Comment => n,
-        Ran::Bad(_) => not_a_call(text, n, number),
+        Ran::Comment | Ran::End => n,
+        Ran::Bad(_) => bad_line(text, n, number),
         Ran::Answered(call, r) => {
             let kind = call.kind;
             outcome(kind, r, output, text, n)

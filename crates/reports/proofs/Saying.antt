@@ -7,18 +7,18 @@ use borrow.Author.Tests.{le-leb, lt-leb}
 use Rattle.memory.specs.Compare.{same}
 use Rattle.fields.specs.Form.{Field}
 use Rattle.tokens.specs.declared.NumberRead.the-variants.{Value}
-use Rattle.reports.specs.Report.{fromNumber, withValue, withField, said, combined}
+use Rattle.reports.specs.Report.{most, turn, fromNumber, withValue, withField, said, combined}
 use Rattle.reports.specs.declared.hours.Said.{Said}
 use Rattle.reports.specs.declared.hours.Said.the-variants.{Once, Unclear}
 use Rattle.reports.specs.declared.hours.Hours.the-variants.{Tenths}
 
-pub small-number : (n : ℕ) → n ≤ 65535 → fromNumber (Value n) ≡ Once n
-small-number n h = rw (le-leb n 65535 h)
+pub small-number : (n : ℕ) → n ≤ most → fromNumber (Value n) ≡ Once n
+small-number n h = rw (le-leb n most h)
 
-pub large-number : (n : ℕ) → 65535 < n → fromNumber (Value n) ≡ Unclear
-large-number n h = rw (lt-leb n 65535 h)
+pub large-number : (n : ℕ) → most < n → fromNumber (Value n) ≡ Unclear
+large-number n h = rw (lt-leb n most h)
 
-pub both-said : (a b : Said) (t c : ℕ) → a ≡ Once t → b ≡ Once c → Tenths (t * 65536 + c) ≡ combined a b
+pub both-said : (a b : Said) (t c : ℕ) → a ≡ Once t → b ≡ Once c → Tenths (t * turn + c) ≡ combined a b
 both-said a b t c p q = rw (p, q)
 
 -- a field with the name, whose text is at hand

@@ -21,9 +21,17 @@ turnsName = 116 ∷ 117 ∷ 114 ∷ 110 ∷ 115 ∷ []
 abbrev pub hoursName : List ℕ
 hoursName = 104 ∷ 111 ∷ 117 ∷ 114 ∷ 115 ∷ []
 
+-- the largest number that counts
+abbrev pub most : ℕ
+most = 65535
+
+-- how many tenths of an hour the counter counts before it turns over
+abbrev pub turn : ℕ
+turn = 65536
+
 -- a number of 16 bits counts
 abbrev pub fromNumber : NumberRead → Said
-fromNumber (Value n) = pick (leb n 65535) (Once n) Unclear
+fromNumber (Value n) = pick (leb n most) (Once n) Unclear
 fromNumber Bad = Unclear
 
 -- the first value counts if it is such a number; after a second one nothing is clear
@@ -42,7 +50,7 @@ said name (f ∷ fs) before = said name fs (withField name before f)
 
 -- the turns and the counter, in tenths of an hour
 abbrev pub combined : Said → Said → Hours
-combined (Once t) (Once c) = Tenths (t * 65536 + c)
+combined (Once t) (Once c) = Tenths (t * turn + c)
 combined (Once t) Nothing = Unknown
 combined (Once t) Unclear = Unknown
 combined Nothing c = Unknown

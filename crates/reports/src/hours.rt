@@ -11,6 +11,12 @@ use tokens::NumberRead;
 use tokens::is;
 use tokens::number;
 
+// The largest number that counts.
+const MOST: u64 = 65_535;
+
+// How many tenths of an hour the counter counts before it turns over.
+const TURN: u32 = 65_536;
+
 // What a list says under a name: nothing, a number once, or nothing that counts, since it is said twice or is no number of 0 to 65,535.
 pub enum Said {
     Nothing,
@@ -42,7 +48,7 @@ fn first_value(value: &[u8]) -> Said
     let NumberRead::Value(n) = r else {
         return Said::Unclear;
     };
-    if 65_535 < n {
+    if MOST < n {
         return Said::Unclear;
     }
     Said::Once(n as u16)
@@ -65,7 +71,7 @@ fn tenths(turns: Said, counter: Said) -> Hours
 {
     match turns {
         Said::Once(t) => match counter {
-            Said::Once(c) => Hours::Tenths((t as u32) * 65_536 + (c as u32)),
+            Said::Once(c) => Hours::Tenths((t as u32) * TURN + (c as u32)),
             Said::Nothing => Hours::Unknown,
             Said::Unclear => Hours::Unknown,
         },

@@ -8,6 +8,9 @@ use fields::read::FieldRead;
 use fields::read::read_field;
 use text_io::print;
 
+// How many tenths an hour has.
+const TENTHS: u32 = 10;
+
 // Is the character shown as it is? Printable ASCII is, but for what the form itself uses: what follows a `=` is never a part of a field.
 fn printable(c: u8) -> bool {
     match c {
@@ -86,8 +89,8 @@ pub fn report(out: &mut [u8], n: usize, list: &[u8]) -> usize {
         return a;
     };
     let b = print::words(out, a, b" = ");
-    let c = print::number(out, b, (t / 10) as u64);
+    let c = print::number(out, b, (t / TENTHS) as u64);
     let d = print::byte(out, c, b'.');
-    let e = print::number(out, d, (t % 10) as u64);
+    let e = print::number(out, d, (t % TENTHS) as u64);
     print::words(out, e, b" hours")
 }

@@ -1,11 +1,15 @@
 // What was read, written to the standard output: what the programs share. No library that a host links uses it.
 ghost use Prim.Native.Nat.{ℕ, _≤_};
+ghost use Rattle.wire.specs.StreamList.{horizonLimit};
 use wire::name::NamePlace;
 use wire::stream_list::DeltaRead;
 use wire::stream_list::HORIZON_LIMIT;
 use wire::stream_list::ListPlace;
 use wire::stream_list::read_delta;
 use wire::text::StringPlace;
+
+// The longest string that is shown.
+const SHOWN: usize = 256;
 
 pub fn words(text: &[u8]) {
     io::write_all(1, text);
@@ -34,10 +38,10 @@ pub fn bytes(s: &[u8]) {
     }
 }
 
-// The bytes of a string of at most 256 bytes that lies in `s`, as every string that was read does.
+// The bytes of a string of at most `SHOWN` bytes that lies in `s`, as every string that was read does.
 pub fn string(label: &[u8], s: &[u8], place: StringPlace) {
     words(label);
-    if 256 < place.length(s) {
+    if SHOWN < place.length(s) {
         words(b"long");
         return;
     }
@@ -45,7 +49,7 @@ pub fn string(label: &[u8], s: &[u8], place: StringPlace) {
         words(b"outside");
         return;
     }
-    let mut text = [0u8; 256];
+    let mut text = [0u8; SHOWN];
     let end = place.copy(s, &mut text, 0);
     bytes(&text[..end]);
 }
@@ -67,7 +71,7 @@ pub fn list(label: &[u8], s: &[u8], place: ListPlace) {
 }
 
 fn streams(s: &[u8], place: ListPlace)
-    requires { ⌜ place .horizon ≤ 4096 ⌝ }
+    requires { ⌜ place .horizon ≤ horizonLimit ⌝ }
 {
     let mut last = place.horizon;
     let mut at = place.deltas;

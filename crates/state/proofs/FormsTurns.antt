@@ -9,60 +9,67 @@ use lib.Dec.{eqb, ltb, leb}
 use borrow.Author.Tests.{le-leb, lt-leb, lt-ltb, le-ltb, eq-eqb, ne-eqb}
 use Rattle.memory.specs.Choice.{pick}
 use Rattle.memory.specs.Numbers.{number}
-use Rattle.state.specs.Layout.{rowPlace, deletePlace, heldOf, indexAt, nameLengthAt, valueLengthAt}
+use Rattle.state.specs.Layout.{nontrailerList, trailerList, heldOf, countOf, indexAt, nameLengthAt, valueLengthAt, statusAt}
 use Rattle.state.specs.Forms.{rowOk, rowsOk, pointing, streamsOk, listOk, deletesOk}
+use Rattle.state.proofs.FormsWays.{row-good}
 
--- ---- rows: i of n are seen
+-- ---- rows: i of n are seen. The next has an index from low on, and that is at least 62. The text so far ends at the offset, and a row has at most
+-- 255 + 2,047 bytes of it, so no sum overflows. The answer for all rows is the one for those left
 
-module _ (also : ℕ → Bool) (m : List ℕ) (top n i low offset : ℕ) where
+abbrev pub RowsSeen : (ℕ → Bool) → List ℕ → ℕ → ℕ → ℕ → ℕ → ℕ → Type 0
+RowsSeen also m top n i low offset =
+    (i ≤ n) × (62 ≤ low) × (offset ≤ 2302 * i) × (rowsOk also m top (countOf m) 0 62 0 ≡ rowsOk also m top (n - i) i low offset)
+
+pub rows-start : (also : ℕ → Bool) (m : List ℕ) (top n : ℕ) → n ≡ countOf m → RowsSeen also m top n 0 62 0
+rows-start also m top n h =
+    let e : countOf m ≡ n - 0 = omega arith in
+    (omega arith, omega arith, omega arith, ap (λ (k : ℕ). rowsOk also m top k 0 62 0) e)
+
+module _ (also : ℕ → Bool) (m : List ℕ) (top n i low offset : ℕ) (seen : RowsSeen also m top n i low offset) where
   module _ (more : i < n) where
-    taken-apart : rowsOk also m top (n - i) i low offset
+    taken-apart : rowsOk also m top (countOf m) 0 62 0
         ≡ (rowOk m top low offset i && (also i
         && rowsOk also m top (n - (i + 1)) (i + 1) (indexAt m i + 1) (offset + (nameLengthAt m i + valueLengthAt m i))))
     unfolding rowsOk
     taken-apart =
         let e : n - i ≡ suc (n - (i + 1)) = omega arith in
-        ap (λ (k : ℕ). rowsOk also m top k i low offset) e
+        seen .3 ∙ ap (λ (k : ℕ). rowsOk also m top k i low offset) e
 
-    pub rows-row : rowOk m top low offset i ≡ false → rowsOk also m top (n - i) i low offset ≡ false
+    pub rows-row : rowOk m top low offset i ≡ false → rowsOk also m top (countOf m) 0 62 0 ≡ false
     rows-row e = taken-apart ∙ rw e refl
 
     module _ (row : rowOk m top low offset i ≡ true) where
-      pub rows-also : also i ≡ false → rowsOk also m top (n - i) i low offset ≡ false
+      pub rows-also : also i ≡ false → rowsOk also m top (countOf m) 0 62 0 ≡ false
       rows-also e = taken-apart ∙ rw (row, e) refl
 
-      module _ (at index name value : ℕ) (place : at ≡ rowPlace i) (read : index ≡ number 4 m at) (first : name ≡ number 2 m (at + 6))
-          (second : value ≡ number 2 m (at + 8)) where
-        pub rows-turn : also i ≡ true
-            → rowsOk also m top (n - i) i low offset ≡ rowsOk also m top (n - (i + 1)) (i + 1) (index + 1) (offset + (name + value))
-        rows-turn e = taken-apart ∙ rw (row, e, read, first, second, place) refl
+      pub rows-turn : (index text : ℕ) → index ≡ indexAt m i → text ≡ nameLengthAt m i + valueLengthAt m i → also i ≡ true
+          → RowsSeen also m top n (i + 1) (index + 1) (offset + text)
+      rows-turn index text read sum e =
+          let bounds = row-good m top low offset i row in
+          (omega arith, omega arith, omega arith, taken-apart ∙ rw (row, e, read, sum) refl)
 
-  pub rows-end : n ≤ i → rowsOk also m top (n - i) i low offset ≡ eqb (offset + 32 * i) (heldOf m)
+  pub rows-end : n ≤ i → rowsOk also m top (countOf m) 0 62 0 ≡ eqb (offset + 32 * i) (heldOf m)
   unfolding rowsOk
-  rows-end h = let e : n - i ≡ 0 = omega arith in ap (λ (k : ℕ). rowsOk also m top k i low offset) e
-
-pub rows-start : (also : ℕ → Bool) (m : List ℕ) (top count n low offset : ℕ) → n ≡ count
-    → rowsOk also m top count 0 low offset ≡ rowsOk also m top (n - 0) 0 low offset
-rows-start also m top count n low offset h = let e : count ≡ n - 0 = omega arith in ap (λ (k : ℕ). rowsOk also m top k 0 low offset) e
+  rows-end h = let e : n - i ≡ 0 = omega arith in seen .3 ∙ ap (λ (k : ℕ). rowsOk also m top k i low offset) e
 
 -- ---- the rows that point at a delete: p of i rows did, and q with the next
 
 module _ (m : List ℕ) (n i p : ℕ) where
-  module _ (more : i < n) (at : ℕ) (place : at ≡ rowPlace i) (q : ℕ) where
-    counted : pointing m (n - i) i ≡ pick (eqb (number 2 m (at + 10)) 0) 0 1 + pointing m (n - (i + 1)) (i + 1)
+  module _ (more : i < n) (q : ℕ) where
+    counted : pointing m (n - i) i ≡ pick (eqb (statusAt m i) 0) 0 1 + pointing m (n - (i + 1)) (i + 1)
     unfolding pointing
     counted =
         let e : n - i ≡ suc (n - (i + 1)) = omega arith in
-        ap (λ (k : ℕ). pointing m k i) e ∙ rw place refl
+        ap (λ (k : ℕ). pointing m k i) e
 
-    pub pointing-one : (number 2 m (at + 10) ≡ 0 → ⊥) → q ≡ p + 1 → p + pointing m (n - i) i ≡ q + pointing m (n - (i + 1)) (i + 1)
+    pub pointing-one : (statusAt m i ≡ 0 → ⊥) → q ≡ p + 1 → p + pointing m (n - i) i ≡ q + pointing m (n - (i + 1)) (i + 1)
     pointing-one f h =
-        let e : pointing m (n - i) i ≡ 1 + pointing m (n - (i + 1)) (i + 1) = counted ∙ rw (ne-eqb (number 2 m (at + 10)) 0 f) refl in
+        let e : pointing m (n - i) i ≡ 1 + pointing m (n - (i + 1)) (i + 1) = counted ∙ rw (ne-eqb (statusAt m i) 0 f) refl in
         omega arith
 
-    pub pointing-none : number 2 m (at + 10) ≡ 0 → q ≡ p → p + pointing m (n - i) i ≡ q + pointing m (n - (i + 1)) (i + 1)
+    pub pointing-none : statusAt m i ≡ 0 → q ≡ p → p + pointing m (n - i) i ≡ q + pointing m (n - (i + 1)) (i + 1)
     pointing-none f h =
-        let e : pointing m (n - i) i ≡ 0 + pointing m (n - (i + 1)) (i + 1) = counted ∙ rw (eq-eqb (number 2 m (at + 10)) 0 f) refl in
+        let e : pointing m (n - i) i ≡ 0 + pointing m (n - (i + 1)) (i + 1) = counted ∙ rw (eq-eqb (statusAt m i) 0 f) refl in
         omega arith
 
   pub pointing-end : n ≤ i → p + pointing m (n - i) i ≡ p
@@ -112,24 +119,24 @@ streams-start m k at last =
     let f : at + 2 * 0 ≡ at = omega arith in
     rw (e, f) refl
 
--- ---- deletes: k of n are seen, and the next stands at its place
+-- ---- deletes: k of n are seen
 
 module _ (m : List ℕ) (n k : ℕ) where
-  module _ (more : k < n) (at : ℕ) (place : at ≡ deletePlace k) where
-    lists : deletesOk m (n - k) k ≡ (listOk m (at + 4) && (listOk m (at + 40) && deletesOk m (n - (k + 1)) (k + 1)))
+  module _ (more : k < n) where
+    lists : deletesOk m (n - k) k ≡ (listOk m (nontrailerList k) && (listOk m (trailerList k) && deletesOk m (n - (k + 1)) (k + 1)))
     unfolding deletesOk
     lists =
         let e : n - k ≡ suc (n - (k + 1)) = omega arith in
-        ap (λ (x : ℕ). deletesOk m x k) e ∙ rw place refl
+        ap (λ (x : ℕ). deletesOk m x k) e
 
-    pub deletes-nontrailer : listOk m (at + 4) ≡ false → deletesOk m (n - k) k ≡ false
+    pub deletes-nontrailer : listOk m (nontrailerList k) ≡ false → deletesOk m (n - k) k ≡ false
     deletes-nontrailer e = lists ∙ rw e refl
 
-    module _ (nontrailer : listOk m (at + 4) ≡ true) where
-      pub deletes-trailer : listOk m (at + 40) ≡ false → deletesOk m (n - k) k ≡ false
+    module _ (nontrailer : listOk m (nontrailerList k) ≡ true) where
+      pub deletes-trailer : listOk m (trailerList k) ≡ false → deletesOk m (n - k) k ≡ false
       deletes-trailer e = lists ∙ rw (nontrailer, e) refl
 
-      pub deletes-turn : listOk m (at + 40) ≡ true → deletesOk m (n - k) k ≡ deletesOk m (n - (k + 1)) (k + 1)
+      pub deletes-turn : listOk m (trailerList k) ≡ true → deletesOk m (n - k) k ≡ deletesOk m (n - (k + 1)) (k + 1)
       deletes-turn e = lists ∙ rw (nontrailer, e) refl
 
   pub deletes-end : n ≤ k → deletesOk m (n - k) k ≡ true

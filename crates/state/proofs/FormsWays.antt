@@ -8,7 +8,6 @@ use mathlib.Core.List.{List}
 use lib.ListN.{length}
 use lib.Dec.{eqb, leb}
 use borrow.Author.Tests.{leb-true, le-leb, lt-leb, eq-eqb, ne-eqb}
-use Rattle.memory.specs.Numbers.{number}
 use Rattle.memory.specs.Compare.{zerosAt}
 use Rattle.integers.specs.Integer.{largest}
 use Rattle.model_laws.proofs.Marks.{and-both}
@@ -18,9 +17,7 @@ use Rattle.state.specs.Layout.{
   decoderRole,
   encoderRole,
   february,
-  rowPlace,
-  deletePlace,
-  referencePlace,
+  listedPlace,
   roleOf,
   editionOf,
   limitOf,
@@ -28,7 +25,16 @@ use Rattle.state.specs.Layout.{
   countOf,
   deleteCount,
   indexAt,
+  offsetAt,
+  nameLengthAt,
+  valueLengthAt,
+  statusAt,
+  restAt,
+  deleteIndexAt,
+  horizonAt,
+  listedCountAt,
 }
+use Rattle.state.specs.EncoderState.{nontrailerAt, trailerAt}
 use Rattle.state.specs.Forms.{headOk, rowOk, rowsOk, statusOk, pointing, streamsOk, listOk, deletesOk, formsDecoder, referenceOk, formsEncoder}
 
 -- ---- a question answered, before others
@@ -86,118 +92,114 @@ module _ (role bytes : ℕ) (m : List ℕ) where
       let count = and-both (leb (countOf m) 128) _ (held .1) in
       (leb-true bytes (length m) (long .0), leb-true (countOf m) 128 (count .0))
 
--- ---- a row, at its place
+-- ---- a row
 
-module _ (m : List ℕ) (i at : ℕ) (place : at ≡ rowPlace i) where
-  module _ (top low offset : ℕ) where
-    row : rowOk m top low offset i ≡ (leb low (number 4 m at) && (leb (number 4 m at) top && (eqb (number 2 m (at + 4)) offset
-        && (leb (number 2 m (at + 6)) 255 && (leb (number 2 m (at + 8)) 2047 && eqb (number 4 m (at + 12)) 0)))))
+module _ (m : List ℕ) (top low offset i : ℕ) where
+  pub row-low : indexAt m i < low → rowOk m top low offset i ≡ false
+  unfolding rowOk
+  row-low h = rw (lt-leb low (indexAt m i) h) refl
+
+  module _ (above : low ≤ indexAt m i) where
+    pub row-top : top < indexAt m i → rowOk m top low offset i ≡ false
     unfolding rowOk
-    row = rw place refl
+    row-top h = rw (le-leb low (indexAt m i) above, lt-leb (indexAt m i) top h) refl
 
-    pub row-low : number 4 m at < low → rowOk m top low offset i ≡ false
-    row-low h = row ∙ rw (lt-leb low (number 4 m at) h) refl
+    module _ (below : indexAt m i ≤ top) where
+      pub row-offset : (offsetAt m i ≡ offset → ⊥) → rowOk m top low offset i ≡ false
+      unfolding rowOk
+      row-offset h = rw (le-leb low (indexAt m i) above, le-leb (indexAt m i) top below, ne-eqb (offsetAt m i) offset h) refl
 
-    module _ (above : low ≤ number 4 m at) where
-      pub row-top : top < number 4 m at → rowOk m top low offset i ≡ false
-      row-top h = row ∙ rw (le-leb low (number 4 m at) above, lt-leb (number 4 m at) top h) refl
+      module _ (packed : offsetAt m i ≡ offset) where
+        lengths : rowOk m top low offset i ≡ (leb (nameLengthAt m i) 255 && (leb (valueLengthAt m i) 2047 && eqb (restAt m i) 0))
+        unfolding rowOk
+        lengths = rw (le-leb low (indexAt m i) above, le-leb (indexAt m i) top below, eq-eqb (offsetAt m i) offset packed) refl
 
-      module _ (below : number 4 m at ≤ top) where
-        pub row-offset : (number 2 m (at + 4) ≡ offset → ⊥) → rowOk m top low offset i ≡ false
-        row-offset h = row ∙ rw (le-leb low (number 4 m at) above, le-leb (number 4 m at) top below, ne-eqb (number 2 m (at + 4)) offset h) refl
+        pub row-name : 255 < nameLengthAt m i → rowOk m top low offset i ≡ false
+        row-name h = lengths ∙ rw (lt-leb (nameLengthAt m i) 255 h) refl
 
-        module _ (packed : number 2 m (at + 4) ≡ offset) where
-          lengths : rowOk m top low offset i ≡ (leb (number 2 m (at + 6)) 255 && (leb (number 2 m (at + 8)) 2047 && eqb (number 4 m (at + 12)) 0))
-          lengths = row ∙ rw (le-leb low (number 4 m at) above, le-leb (number 4 m at) top below, eq-eqb (number 2 m (at + 4)) offset packed) refl
+        module _ (name : nameLengthAt m i ≤ 255) where
+          pub row-value : 2047 < valueLengthAt m i → rowOk m top low offset i ≡ false
+          row-value h = lengths ∙ rw (le-leb (nameLengthAt m i) 255 name, lt-leb (valueLengthAt m i) 2047 h) refl
 
-          pub row-name : 255 < number 2 m (at + 6) → rowOk m top low offset i ≡ false
-          row-name h = lengths ∙ rw (lt-leb (number 2 m (at + 6)) 255 h) refl
+          pub row-rest : valueLengthAt m i ≤ 2047 → rowOk m top low offset i ≡ eqb (restAt m i) 0
+          row-rest h = lengths ∙ rw (le-leb (nameLengthAt m i) 255 name, le-leb (valueLengthAt m i) 2047 h) refl
 
-          module _ (name : number 2 m (at + 6) ≤ 255) where
-            pub row-value : 2047 < number 2 m (at + 8) → rowOk m top low offset i ≡ false
-            row-value h = lengths ∙ rw (le-leb (number 2 m (at + 6)) 255 name, lt-leb (number 2 m (at + 8)) 2047 h) refl
+  pub row-good : rowOk m top low offset i ≡ true
+      → (low ≤ indexAt m i) × (indexAt m i ≤ top) × (nameLengthAt m i ≤ 255) × (valueLengthAt m i ≤ 2047)
+  unfolding rowOk
+  row-good e =
+      let above = and-both (leb low (indexAt m i)) _ e in
+      let below = and-both (leb (indexAt m i) top) _ (above .1) in
+      let packed = and-both (eqb (offsetAt m i) offset) _ (below .1) in
+      let name = and-both (leb (nameLengthAt m i) 255) _ (packed .1) in
+      let value = and-both (leb (valueLengthAt m i) 2047) _ (name .1) in (
+        leb-true low (indexAt m i) (above .0),
+        leb-true (indexAt m i) top (below .0),
+        leb-true (nameLengthAt m i) 255 (name .0),
+        leb-true (valueLengthAt m i) 2047 (value .0),
+      )
 
-            pub row-rest : number 2 m (at + 8) ≤ 2047 → rowOk m top low offset i ≡ eqb (number 4 m (at + 12)) 0
-            row-rest h = lengths ∙ rw (le-leb (number 2 m (at + 6)) 255 name, le-leb (number 2 m (at + 8)) 2047 h) refl
-
-    pub row-good : rowOk m top low offset i ≡ true
-        → (low ≤ number 4 m at) × (number 4 m at ≤ top) × (number 2 m (at + 6) ≤ 255) × (number 2 m (at + 8) ≤ 2047)
-    row-good e =
-        let above = and-both (leb low (number 4 m at)) _ (sym row ∙ e) in
-        let below = and-both (leb (number 4 m at) top) _ (above .1) in
-        let packed = and-both (eqb (number 2 m (at + 4)) offset) _ (below .1) in
-        let name = and-both (leb (number 2 m (at + 6)) 255) _ (packed .1) in
-        let value = and-both (leb (number 2 m (at + 8)) 2047) _ (name .1) in (
-          leb-true low (number 4 m at) (above .0),
-          leb-true (number 4 m at) top (below .0),
-          leb-true (number 2 m (at + 6)) 255 (name .0),
-          leb-true (number 2 m (at + 8)) 2047 (value .0),
-        )
-
-  -- the decoder's status: none, or the delete at `there`
-  pub status-none : number 2 m (at + 10) ≡ 0 → statusOk m i ≡ true
+-- the decoder's status: none, or one that points at a delete
+module _ (m : List ℕ) (i status : ℕ) (read : status ≡ statusAt m i) where
+  pub status-none : status ≡ 0 → statusOk m i ≡ true
   unfolding statusOk
-  status-none h = rw (sym place, eq-eqb (number 2 m (at + 10)) 0 h) refl
+  status-none h = rw (sym read, eq-eqb status 0 h) refl
 
-  module _ (some : number 2 m (at + 10) ≡ 0 → ⊥) where
-    pub status-past : deleteCount m < number 2 m (at + 10) → statusOk m i ≡ false
+  module _ (some : status ≡ 0 → ⊥) where
+    pub status-past : deleteCount m < status → statusOk m i ≡ false
     unfolding statusOk
-    status-past h = rw (sym place, ne-eqb (number 2 m (at + 10)) 0 some, lt-leb (number 2 m (at + 10)) (deleteCount m) h) refl
+    status-past h = rw (sym read, ne-eqb status 0 some, lt-leb status (deleteCount m) h) refl
 
-    pub status-points : (there : ℕ) → number 2 m (at + 10) ≤ deleteCount m → there ≡ deletePlace (number 2 m (at + 10) - 1)
-        → statusOk m i ≡ eqb (number 4 m there) (number 4 m at)
+    pub status-points : status ≤ deleteCount m → statusOk m i ≡ eqb (deleteIndexAt m (status - 1)) (indexAt m i)
     unfolding statusOk
-    status-points there h e = rw (sym place, ne-eqb (number 2 m (at + 10)) 0 some, le-leb (number 2 m (at + 10)) (deleteCount m) h, e) refl
+    status-points h = rw (sym read, ne-eqb status 0 some, le-leb status (deleteCount m) h) refl
 
-  -- the encoder's status, and the reference at `there`
-  pub reference-status : 1 < number 2 m (at + 10) → referenceOk m i ≡ false
+-- the encoder's status, and the horizons that the row's index has
+module _ (m : List ℕ) (i : ℕ) where
+  pub reference-status : 1 < statusAt m i → referenceOk m i ≡ false
   unfolding referenceOk
-  reference-status h = rw (sym place, lt-leb (number 2 m (at + 10)) 1 h) refl
+  reference-status h = rw (lt-leb (statusAt m i) 1 h) refl
 
-  module _ (index : ℕ) (read : index ≡ number 4 m at) where
-    pub index-is : index ≡ indexAt m i
-    index-is = read ∙ ap (number 4 m) place
+  module _ (known : statusAt m i ≤ 1) where
+    pub reference-nontrailer : 4096 < nontrailerAt m (indexAt m i) → referenceOk m i ≡ false
+    unfolding referenceOk
+    reference-nontrailer h = rw (le-leb (statusAt m i) 1 known, lt-leb (nontrailerAt m (indexAt m i)) 4096 h) refl
 
-    module _ (there : ℕ) (e : there ≡ referencePlace index) (known : number 2 m (at + 10) ≤ 1) where
-      horizons : referenceOk m i ≡ (leb (number 2 m there) 4096 && leb (number 2 m (there + 38)) 4096)
-      unfolding referenceOk
-      horizons = rw (e, index-is, sym place, le-leb (number 2 m (at + 10)) 1 known) refl
-
-      pub reference-nontrailer : 4096 < number 2 m there → referenceOk m i ≡ false
-      reference-nontrailer h = horizons ∙ rw (lt-leb (number 2 m there) 4096 h) refl
-
-      pub reference-trailer : number 2 m there ≤ 4096 → referenceOk m i ≡ leb (number 2 m (there + 38)) 4096
-      reference-trailer h = horizons ∙ rw (le-leb (number 2 m there) 4096 h) refl
+    pub reference-trailer : nontrailerAt m (indexAt m i) ≤ 4096 → referenceOk m i ≡ leb (trailerAt m (indexAt m i)) 4096
+    unfolding referenceOk
+    reference-trailer h = rw (le-leb (statusAt m i) 1 known, le-leb (nontrailerAt m (indexAt m i)) 4096 h) refl
 
 -- ---- a stream list
 
-module _ (m : List ℕ) (at horizon : ℕ) (first : horizon ≡ number 2 m at) where
+module _ (m : List ℕ) (at horizon : ℕ) (first : horizon ≡ horizonAt m at) where
   pub list-horizon : 4096 < horizon → listOk m at ≡ false
   unfolding listOk
   list-horizon h = rw (sym first, lt-leb horizon 4096 h) refl
 
-  module _ (low : horizon ≤ 4096) (count : ℕ) (second : count ≡ number 2 m (at + 2)) where
+  module _ (low : horizon ≤ 4096) (count : ℕ) (second : count ≡ listedCountAt m at) where
     pub list-count : 16 < count → listOk m at ≡ false
     unfolding listOk
     list-count h = rw (sym first, sym second, le-leb horizon 4096 low, lt-leb count 16 h) refl
 
-    module _ (few : count ≤ 16) (ordered : Bool) (is : ordered ≡ streamsOk m count (at + 4) horizon) where
-      last : listOk m at ≡ (ordered && zerosAt (32 - 2 * count) m (at + 4 + 2 * count))
-      unfolding listOk
-      last = rw (sym first, sym second, le-leb horizon 4096 low, le-leb count 16 few, is) refl
+    -- the streams stand at `listed`
+    module _ (listed : ℕ) (place : listed ≡ listedPlace at) where
+      module _ (few : count ≤ 16) (ordered : Bool) (is : ordered ≡ streamsOk m count listed horizon) where
+        last : listOk m at ≡ (ordered && zerosAt (32 - 2 * count) m (listed + 2 * count))
+        unfolding listOk
+        last = rw (sym first, sym second, le-leb horizon 4096 low, le-leb count 16 few, is, place) refl
 
-      pub list-streams : ordered ≡ false → listOk m at ≡ false
-      list-streams e = last ∙ rw e refl
+        pub list-streams : ordered ≡ false → listOk m at ≡ false
+        list-streams e = last ∙ rw e refl
 
-      pub list-zeros : ordered ≡ true → listOk m at ≡ zerosAt (32 - 2 * count) m (at + 4 + 2 * count)
-      list-zeros e = last ∙ rw e refl
+        pub list-zeros : ordered ≡ true → listOk m at ≡ zerosAt (32 - 2 * count) m (listed + 2 * count)
+        list-zeros e = last ∙ rw e refl
 
-    pub list-empty : count ≡ 0 → listOk m at ≡ zerosAt 32 m (at + 4)
-    unfolding streamsOk
-    list-empty e =
-        let left : 32 - 2 * count ≡ 32 = omega arith in
-        let from : at + 4 + 2 * count ≡ at + 4 = omega arith in
-        rw (left, from) at (list-zeros (omega arith) true (rw e refl) refl)
+      pub list-empty : count ≡ 0 → listOk m at ≡ zerosAt 32 m listed
+      unfolding streamsOk
+      list-empty e =
+          let left : 32 - 2 * count ≡ 32 = omega arith in
+          let from : listed + 2 * count ≡ listed = omega arith in
+          rw (left, from) at (list-zeros (omega arith) true (rw e refl) refl)
 
 -- ---- the whole
 

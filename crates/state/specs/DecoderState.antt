@@ -9,7 +9,19 @@ use Rattle.memory.specs.Numbers.{number, numberBytes}
 use Rattle.wire.specs.StreamList.{StreamList}
 use Rattle.model.specs.Parts.{Delete}
 use Rattle.model.specs.Decoder.{Held, Decoder}
-use Rattle.state.specs.Layout.{decoderRole, deletesPlace, deletePlace, limitOf, countOf, deleteCount}
+use Rattle.state.specs.Layout.{
+  decoderRole,
+  deletesPlace,
+  nontrailerList,
+  trailerList,
+  listedPlace,
+  limitOf,
+  countOf,
+  deleteCount,
+  deleteIndexAt,
+  horizonAt,
+  listedCountAt,
+}
 use Rattle.state.specs.Rows.{Row, rowsOf}
 use Rattle.state.specs.Front.{Front, marksOf, overlayFront}
 
@@ -22,10 +34,10 @@ streamsAt (suc n) m at = number 2 m at ∷ streamsAt n m (at + 2)
 
 -- a stream list: horizon, count, and 16 places for streams
 unfoldable pub listAt : List ℕ → ℕ → StreamList
-listAt m at = record { horizon = number 2 m at; streams = streamsAt (number 2 m (at + 2)) m (at + 4) }
+listAt m at = record { horizon = horizonAt m at; streams = streamsAt (listedCountAt m at) m (listedPlace at) }
 
 unfoldable pub deleteAt : List ℕ → ℕ → Delete
-deleteAt m k = record { index = number 4 m (deletePlace k); nontrailer = listAt m (deletePlace k + 4); trailer = listAt m (deletePlace k + 40) }
+deleteAt m k = record { index = deleteIndexAt m k; nontrailer = listAt m (nontrailerList k); trailer = listAt m (trailerList k) }
 
 -- the n deletes from delete k on
 unfoldable pub deletesOf : List ℕ → ℕ → ℕ → List Delete

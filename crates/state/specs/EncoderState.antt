@@ -1,23 +1,23 @@
 -- The encoder's state and its bytes. After the front stand the references, 76 bytes for each index from 62 to 189: what an entry's delete will be
 -- made from. In the base that is a horizon for each kind of part; the other bytes of a reference are free.
-use Prim.Native.Nat.{ℕ, _+_}
+use Prim.Native.Nat.{ℕ}
 use mathlib.Core.List.{List, [], _∷_, map}
 use lib.Dec.{eqb}
 use Rattle.memory.specs.Choice.{pick}
 use Rattle.memory.specs.Bytes.{overlay}
-use Rattle.memory.specs.Numbers.{number, numberBytes}
+use Rattle.memory.specs.Numbers.{numberBytes}
 use Rattle.model.specs.Encoder.{Sent, Encoder}
-use Rattle.state.specs.Layout.{encoderRole, referencePlace, limitOf, countOf}
+use Rattle.state.specs.Layout.{encoderRole, nontrailerReference, trailerReference, limitOf, countOf, horizonAt}
 use Rattle.state.specs.Rows.{Row, rowsOf}
 use Rattle.state.specs.Front.{Front, marksOf, overlayFront}
 
 -- ---- reading
 
 abbrev pub nontrailerAt : List ℕ → ℕ → ℕ
-nontrailerAt m index = number 2 m (referencePlace index)
+nontrailerAt m index = horizonAt m (nontrailerReference index)
 
 abbrev pub trailerAt : List ℕ → ℕ → ℕ
-trailerAt m index = number 2 m (referencePlace index + 38)
+trailerAt m index = horizonAt m (trailerReference index)
 
 unfoldable pub sentOfRow : List ℕ → Row → Sent
 sentOfRow m r = record {
@@ -42,7 +42,8 @@ encoderFront E = record { role = encoderRole; limit = E .limit; rows = map rowOf
 
 -- the two horizons of an entry, stored at its index
 unfoldable pub referenceOver : Sent → List ℕ → List ℕ
-referenceOver e m = overlay (overlay m (referencePlace (e .index)) (numberBytes 2 (e .nontrailer))) (referencePlace (e .index) + 38) (numberBytes 2 (e .trailer))
+referenceOver e m =
+    overlay (overlay m (nontrailerReference (e .index)) (numberBytes 2 (e .nontrailer))) (trailerReference (e .index)) (numberBytes 2 (e .trailer))
 
 unfoldable pub referencesOver : List Sent → List ℕ → List ℕ
 referencesOver [] m = m

@@ -14,7 +14,9 @@ use Rattle.state.specs.Layout.{
   decoderRole,
   encoderRole,
   february,
-  deletePlace,
+  nontrailerList,
+  trailerList,
+  listedPlace,
   roleOf,
   editionOf,
   limitOf,
@@ -27,6 +29,9 @@ use Rattle.state.specs.Layout.{
   valueLengthAt,
   statusAt,
   restAt,
+  deleteIndexAt,
+  horizonAt,
+  listedCountAt,
 }
 use Rattle.state.specs.EncoderState.{nontrailerAt, trailerAt}
 
@@ -54,7 +59,7 @@ rowsOk also m top (suc k) i low offset =
 unfoldable pub statusOk : List ℕ → ℕ → Bool
 statusOk m i =
     pick (eqb (statusAt m i) 0) true
-    (leb (statusAt m i) (deleteCount m) && eqb (number 4 m (deletePlace (statusAt m i - 1))) (indexAt m i))
+    (leb (statusAt m i) (deleteCount m) && eqb (deleteIndexAt m (statusAt m i - 1)) (indexAt m i))
 
 -- how many of the k rows from row i on point at a delete
 unfoldable pub pointing : List ℕ → ℕ → ℕ → ℕ
@@ -69,12 +74,13 @@ streamsOk m (suc k) at last = ltb last (number 2 m at) && (leb (number 2 m at) 4
 -- "Horizon at most 4,096, count at most 16"; the unused places are 0
 unfoldable pub listOk : List ℕ → ℕ → Bool
 listOk m at =
-    leb (number 2 m at) 4096 && (leb (number 2 m (at + 2)) 16
-    && (streamsOk m (number 2 m (at + 2)) (at + 4) (number 2 m at) && zerosAt (32 - 2 * number 2 m (at + 2)) m (at + 4 + 2 * number 2 m (at + 2))))
+    leb (horizonAt m at) 4096 && (leb (listedCountAt m at) 16
+    && (streamsOk m (listedCountAt m at) (listedPlace at) (horizonAt m at)
+    && zerosAt (32 - 2 * listedCountAt m at) m (listedPlace at + 2 * listedCountAt m at)))
 
 unfoldable pub deletesOk : List ℕ → ℕ → ℕ → Bool
 deletesOk m zero k = true
-deletesOk m (suc n) k = listOk m (deletePlace k + 4) && (listOk m (deletePlace k + 40) && deletesOk m n (k + 1))
+deletesOk m (suc n) k = listOk m (nontrailerList k) && (listOk m (trailerList k) && deletesOk m n (k + 1))
 
 -- as many rows point at a delete as there are deletes. Rows have different indexes, so two never point at one delete:
 -- every delete has its row, and no index has two deletes

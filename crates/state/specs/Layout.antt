@@ -71,6 +71,9 @@ trailerReference index = referencePlace index + 38
 abbrev pub headLength : ℕ
 headLength = 64
 
+abbrev pub limitPlace : ℕ
+limitPlace = 2
+
 abbrev pub heldPlace : ℕ
 heldPlace = 4
 
@@ -87,7 +90,7 @@ abbrev pub editionOf : List ℕ → ℕ
 editionOf m = getD m 1 0
 
 abbrev pub limitOf : List ℕ → ℕ
-limitOf m = number 2 m 2
+limitOf m = number 2 m limitPlace
 
 abbrev pub heldOf : List ℕ → ℕ
 heldOf m = number 2 m heldPlace
@@ -98,7 +101,20 @@ countOf m = number 2 m countPlace
 abbrev pub deleteCount : List ℕ → ℕ
 deleteCount m = number 2 m deleteCountPlace
 
--- ---- row i: index, text offset, name length, value length, status, zeros
+-- ---- the row at a place: index, text offset, name length, value length, status, zeros
+abbrev pub offsetIn : List ℕ → ℕ → ℕ
+offsetIn m at = number 2 m (at + 4)
+
+abbrev pub nameLengthIn : List ℕ → ℕ → ℕ
+nameLengthIn m at = number 2 m (at + 6)
+
+abbrev pub valueLengthIn : List ℕ → ℕ → ℕ
+valueLengthIn m at = number 2 m (at + 8)
+
+abbrev pub statusIn : List ℕ → ℕ → ℕ
+statusIn m at = number 2 m (at + 10)
+
+-- ---- row i
 abbrev pub offsetPlace : ℕ → ℕ
 offsetPlace i = rowPlace i + 4
 
@@ -109,17 +125,17 @@ abbrev pub indexAt : List ℕ → ℕ → ℕ
 indexAt m i = number 4 m (rowPlace i)
 
 abbrev pub offsetAt : List ℕ → ℕ → ℕ
-offsetAt m i = number 2 m (offsetPlace i)
+offsetAt m i = offsetIn m (rowPlace i)
 
 abbrev pub nameLengthAt : List ℕ → ℕ → ℕ
-nameLengthAt m i = number 2 m (rowPlace i + 6)
+nameLengthAt m i = nameLengthIn m (rowPlace i)
 
 abbrev pub valueLengthAt : List ℕ → ℕ → ℕ
-valueLengthAt m i = number 2 m (rowPlace i + 8)
+valueLengthAt m i = valueLengthIn m (rowPlace i)
 
 -- at the decoder 0, or the place of the entry's delete and one; at the encoder 1 where the entry is under deletion, else 0
 abbrev pub statusAt : List ℕ → ℕ → ℕ
-statusAt m i = number 2 m (statusPlace i)
+statusAt m i = statusIn m (rowPlace i)
 
 abbrev pub restAt : List ℕ → ℕ → ℕ
 restAt m i = number 4 m (rowPlace i + 12)

@@ -5,69 +5,77 @@ ghost use Prim.Native.Nat.{ℕ, _+_, _*_, _≤_, _<_};
 ghost use lib.ListN.{length};
 ghost use lib.Dec.{eqb};
 ghost use Rattle.integers.specs.Integer.{largest};
-ghost use Rattle.state.specs.Layout.{countOf, deleteCount};
+ghost use Rattle.state.specs.Layout.{decoderLength, countOf, deleteCount};
 ghost use Rattle.state.specs.Forms.{rowsOk, statusOk, pointing, streamsOk, listOk, deletesOk, formsDecoder};
-use crate::layout::COUNT;
+use crate::forms::head_ok;
+use crate::forms::held_ok;
+use crate::forms::row_ok;
+use crate::head::count_of;
+use crate::head::delete_count;
+use crate::kept::LISTED_STREAM;
+use crate::kept::delete_index_at;
+use crate::kept::horizon_at;
+use crate::kept::listed_at;
+use crate::kept::listed_count_at;
+use crate::kept::listed_place;
+use crate::kept::nontrailer_list;
+use crate::kept::trailer_list;
 use crate::layout::DECODER;
 use crate::layout::DECODER_LENGTH;
 use crate::layout::DELETE_PLACES;
-use crate::layout::DELETES_COUNT;
-use crate::layout::FIRST_INDEX;
-use crate::layout::HELD;
-use crate::layout::LAST_INDEX;
-use crate::layout::delete_place;
-use crate::layout::row_place;
-use crate::rows::head_ok;
-use crate::rows::row_ok;
+use crate::layout::LISTED_BYTES;
+use crate::layout::MOST_HORIZON;
+use crate::layout::MOST_LISTED;
+use crate::row::index_at;
+use crate::row::status_at;
+use crate::row::text_length_at;
+use integers::number::StreamNumber;
+use integers::number::TableIndex;
 use memory::compare::zeros;
-use memory::number::u16_at;
-use memory::number::u32_at;
 
 // Is the status of row `i` 0, or does it point at a delete with the row's index?
 fn status_ok(m: &[u8], i: usize) -> bool
-    requires { ⌜ (i < 128) × (deleteCount (now m) ≤ 256) × (35912 ≤ length (now m)) ⌝ }
+    requires { ⌜ (i < 128) × (deleteCount (now m) ≤ 256) × (decoderLength ≤ length (now m)) ⌝ }
     ensures { λ r. ⌜ r ≡ statusOk (now (m .entry)) i ⌝ }
 {
-    let at = row_place(i);
-    let status = u16_at(m, at + 10) as usize;
+    let status = status_at(m, i) as usize;
     if status == 0 {
         return true;
     }
-    if (u16_at(m, DELETES_COUNT) as usize) < status {
+    if (delete_count(m) as usize) < status {
         return false;
     }
-    u32_at(m, delete_place(status - 1)) == u32_at(m, at)
+    delete_index_at(m, status - 1) == index_at(m, i)
 }
 
 // One pass over the rows: all in order, the held size their sum, and as many that point at a delete as there are deletes.
 fn rows_form(m: &[u8]) -> bool
-    requires { ⌜ (countOf (now m) ≤ 128) × (deleteCount (now m) ≤ 256) × (35912 ≤ length (now m)) ⌝ }
+    requires { ⌜ (countOf (now m) ≤ 128) × (deleteCount (now m) ≤ 256) × (decoderLength ≤ length (now m)) ⌝ }
     ensures { λ r. ⌜ r ≡ rowsOk (statusOk (now (m .entry))) (now (m .entry)) largest (countOf (now (m .entry))) 0 62 0 && eqb (pointing (now (m .entry)) (countOf (now (m .entry))) 0) (deleteCount (now (m .entry))) ⌝ }
 {
-    let count = u16_at(m, COUNT) as usize;
-    let mut low: u32 = FIRST_INDEX;
+    let count = count_of(m) as usize;
+    let mut low: u32 = TableIndex::FIRST;
     let mut offset: usize = 0;
     let mut pointed: usize = 0;
     let mut i: usize = 0;
     while i < count {
-        if !row_ok(m, LAST_INDEX, low, offset, i) {
+        if !row_ok(m, TableIndex::LAST, low, offset, i) {
             return false;
         }
         if !status_ok(m, i) {
             return false;
         }
-        let at = row_place(i);
-        low = u32_at(m, at) + 1;
-        offset += (u16_at(m, at + 6) as usize) + (u16_at(m, at + 8) as usize);
-        if u16_at(m, at + 10) != 0 {
+        low = index_at(m, i) + 1;
+        offset += text_length_at(m, i);
+        if status_at(m, i) != 0 {
             pointed += 1;
         }
         i += 1;
     }
-    if offset + 32 * i != (u16_at(m, HELD) as usize) {
+    if !held_ok(m, offset, i) {
         return false;
     }
-    pointed == (u16_at(m, DELETES_COUNT) as usize)
+    pointed == (delete_count(m) as usize)
 }
 
 // Are the `k` streams from the place `at` on in order after `last`?
@@ -78,11 +86,11 @@ fn streams_ok(m: &[u8], k: usize, at: usize, last: u16) -> bool
     let mut before = last;
     let mut i: usize = 0;
     while i < k {
-        let stream = u16_at(m, at + 2 * i);
+        let stream = listed_at(m, at, i);
         if stream <= before {
             return false;
         }
-        if 4_095 < stream {
+        if StreamNumber::LAST < stream {
             return false;
         }
         before = stream;
@@ -93,40 +101,44 @@ fn streams_ok(m: &[u8], k: usize, at: usize, last: u16) -> bool
 
 // Is the stream list at the place `at` in range and in order, and are its unused places 0?
 fn list_ok(m: &[u8], at: usize) -> bool
-    requires { ⌜ at + 36 ≤ length (now m) ⌝ }
+    requires { ⌜ (at ≤ 65536) × (at + 36 ≤ length (now m)) ⌝ }
     ensures { λ r. ⌜ r ≡ listOk (now (m .entry)) at ⌝ }
 {
-    let horizon = u16_at(m, at);
-    if 4_096 < horizon {
+    let horizon = horizon_at(m, at);
+    if MOST_HORIZON < horizon {
         return false;
     }
-    let count = u16_at(m, at + 2) as usize;
-    if 16 < count {
+    let count = listed_count_at(m, at) as usize;
+    if MOST_LISTED < count {
         return false;
     }
+    let listed = listed_place(at);
     // Most lists are empty: then the compiler knows how many zeros there are.
     if count == 0 {
-        return zeros(m, at + 4, 32);
+        return zeros(m, listed, LISTED_BYTES);
     }
-    if !streams_ok(m, count, at + 4, horizon) {
+    if !streams_ok(m, count, listed, horizon) {
         return false;
     }
-    zeros(m, at + 4 + 2 * count, 32 - 2 * count)
+    zeros(
+        m,
+        listed + LISTED_STREAM * count,
+        LISTED_BYTES - LISTED_STREAM * count,
+    )
 }
 
 // One pass over the deletes.
 fn deletes_ok(m: &[u8]) -> bool
-    requires { ⌜ (deleteCount (now m) ≤ 256) × (35912 ≤ length (now m)) ⌝ }
+    requires { ⌜ (deleteCount (now m) ≤ 256) × (decoderLength ≤ length (now m)) ⌝ }
     ensures { λ r. ⌜ r ≡ deletesOk (now (m .entry)) (deleteCount (now (m .entry))) 0 ⌝ }
 {
-    let n = u16_at(m, DELETES_COUNT) as usize;
+    let n = delete_count(m) as usize;
     let mut k: usize = 0;
     while k < n {
-        let at = delete_place(k);
-        if !list_ok(m, at + 4) {
+        if !list_ok(m, nontrailer_list(k)) {
             return false;
         }
-        if !list_ok(m, at + 40) {
+        if !list_ok(m, trailer_list(k)) {
             return false;
         }
         k += 1;
@@ -140,7 +152,7 @@ pub fn forms_decoder(m: &[u8]) -> bool
     if !head_ok(m, DECODER, DECODER_LENGTH) {
         return false;
     }
-    if DELETE_PLACES < (u16_at(m, DELETES_COUNT) as usize) {
+    if DELETE_PLACES < (delete_count(m) as usize) {
         return false;
     }
     if !rows_form(m) {

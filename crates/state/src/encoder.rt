@@ -1,54 +1,49 @@
 // Does lent memory form an encoder's state?
 ghost use mathlib.Core.Path.{_≡_};
-ghost use Prim.Native.Nat.{ℕ, _+_, _*_, _-_, _≤_, _<_};
+ghost use Prim.Native.Nat.{ℕ, _≤_, _<_};
 ghost use lib.ListN.{length};
-ghost use Rattle.state.specs.Layout.{countOf, indexAt};
+ghost use Rattle.state.specs.Layout.{encoderLength, countOf, indexAt};
 ghost use Rattle.state.specs.Forms.{rowsOk, referenceOk, formsEncoder};
-use crate::layout::COUNT;
-use crate::layout::DELETES;
-use crate::layout::DELETES_COUNT;
+use crate::forms::head_ok;
+use crate::forms::held_ok;
+use crate::forms::row_ok;
+use crate::head::count_of;
+use crate::head::delete_count;
+use crate::kept::horizon_at;
 use crate::layout::ENCODER;
 use crate::layout::ENCODER_LENGTH;
-use crate::layout::FIRST_INDEX;
-use crate::layout::HELD;
 use crate::layout::LAST_SENT_INDEX;
-use crate::layout::row_place;
-use crate::rows::head_ok;
-use crate::rows::row_ok;
-use memory::number::u16_at;
-use memory::number::u32_at;
-
-// Where the reference of the entry with this index stands: a horizon for each kind of part, 38 bytes apart.
-pub fn reference_place(index: u32) -> usize
-    requires { ⌜ (62 ≤ index) × (index ≤ 189) ⌝ }
-    ensures { λ r. ⌜ r ≡ 7232 + 76 * (index - 62) ⌝ }
-{
-    DELETES + 76 * ((index - FIRST_INDEX) as usize)
-}
+use crate::layout::MOST_HORIZON;
+use crate::reference::nontrailer_reference;
+use crate::reference::trailer_reference;
+use crate::row::UNDER_DELETION;
+use crate::row::index_at;
+use crate::row::status_at;
+use crate::row::text_length_at;
+use integers::number::TableIndex;
 
 // Is the status of row `i` 0 or 1, and are the horizons of its reference in range?
 fn reference_ok(m: &[u8], i: usize) -> bool
-    requires { ⌜ (i < 128) × (62 ≤ indexAt (now m) i) × (indexAt (now m) i ≤ 189) × (16960 ≤ length (now m)) ⌝ }
+    requires { ⌜ (i < 128) × (62 ≤ indexAt (now m) i) × (indexAt (now m) i ≤ 189) × (encoderLength ≤ length (now m)) ⌝ }
     ensures { λ r. ⌜ r ≡ referenceOk (now (m .entry)) i ⌝ }
 {
-    let at = row_place(i);
-    if 1 < u16_at(m, at + 10) {
+    if UNDER_DELETION < status_at(m, i) {
         return false;
     }
-    let place = reference_place(u32_at(m, at));
-    if 4_096 < u16_at(m, place) {
+    let index = TableIndex::new(index_at(m, i));
+    if MOST_HORIZON < horizon_at(m, nontrailer_reference(index)) {
         return false;
     }
-    u16_at(m, place + 38) <= 4_096
+    horizon_at(m, trailer_reference(index)) <= MOST_HORIZON
 }
 
 // One pass over the rows: all in order, and the held size their sum.
 fn rows_form(m: &[u8]) -> bool
-    requires { ⌜ (countOf (now m) ≤ 128) × (16960 ≤ length (now m)) ⌝ }
+    requires { ⌜ (countOf (now m) ≤ 128) × (encoderLength ≤ length (now m)) ⌝ }
     ensures { λ r. ⌜ r ≡ rowsOk (referenceOk (now (m .entry))) (now (m .entry)) 189 (countOf (now (m .entry))) 0 62 0 ⌝ }
 {
-    let count = u16_at(m, COUNT) as usize;
-    let mut low: u32 = FIRST_INDEX;
+    let count = count_of(m) as usize;
+    let mut low: u32 = TableIndex::FIRST;
     let mut offset: usize = 0;
     let mut i: usize = 0;
     while i < count {
@@ -58,12 +53,11 @@ fn rows_form(m: &[u8]) -> bool
         if !reference_ok(m, i) {
             return false;
         }
-        let at = row_place(i);
-        low = u32_at(m, at) + 1;
-        offset += (u16_at(m, at + 6) as usize) + (u16_at(m, at + 8) as usize);
+        low = index_at(m, i) + 1;
+        offset += text_length_at(m, i);
         i += 1;
     }
-    offset + 32 * i == (u16_at(m, HELD) as usize)
+    held_ok(m, offset, i)
 }
 
 pub fn forms_encoder(m: &[u8]) -> bool
@@ -72,7 +66,7 @@ pub fn forms_encoder(m: &[u8]) -> bool
     if !head_ok(m, ENCODER, ENCODER_LENGTH) {
         return false;
     }
-    if u16_at(m, DELETES_COUNT) != 0 {
+    if delete_count(m) != 0 {
         return false;
     }
     rows_form(m)

@@ -4,7 +4,7 @@ ghost use Prim.Native.Nat.{ℕ, _≤_};
 ghost use lib.ListN.{length};
 ghost use Rattle.memory.specs.Bytes.{overlay};
 ghost use Rattle.memory.specs.Numbers.{numberBytes};
-ghost use Rattle.state.specs.Layout.{headLength, heldPlace, countPlace, deleteCountPlace, limitOf, heldOf, countOf, deleteCount};
+ghost use Rattle.state.specs.Layout.{headLength, limitPlace, heldPlace, countPlace, deleteCountPlace, limitOf, heldOf, countOf, deleteCount};
 use memory::number::put_u16;
 use memory::number::u16_at;
 
@@ -12,7 +12,7 @@ pub const ROLE: usize = 0;
 
 pub const EDITION: usize = 1;
 
-pub const LIMIT: usize = 2;
+const LIMIT: usize = 2;
 
 const HELD: usize = 4;
 
@@ -55,6 +55,13 @@ pub fn delete_count(m: &[u8]) -> u16
     ensures { λ r. ⌜ r ≡ deleteCount (now (m .entry)) ⌝ }
 {
     u16_at(m, DELETES)
+}
+
+pub fn put_limit(m: &mut [u8], limit: u16)
+    requires { ⌜ headLength ≤ length (now m) ⌝ }
+    ensures { λ _. ⌜ now (m .exit) ≡ overlay (now (m .entry)) limitPlace (numberBytes 2 limit) ⌝ }
+{
+    put_u16(m, LIMIT, limit);
 }
 
 pub fn put_held(m: &mut [u8], held: u16)

@@ -6,6 +6,7 @@ ghost use Rattle.memory.specs.Bytes.{overlay};
 ghost use Rattle.memory.specs.Numbers.{number, numberBytes};
 ghost use Rattle.state.specs.Layout.{decoderLength, deletePlace, nontrailerList, trailerList, deleteIndexAt, horizonAt, listedCountAt, listedPlace};
 use crate::layout::delete_place;
+use integers::number::StreamNumber;
 use integers::number::TableIndex;
 use memory::number::put_u16;
 use memory::number::put_u32;
@@ -20,6 +21,8 @@ const TRAILER: usize = 40;
 const LISTED_COUNT: usize = 2;
 
 const LISTED: usize = 4;
+
+pub const LISTED_STREAM: usize = 2;
 
 // The index of the entry that delete `k` deletes.
 pub fn delete_index_at(m: &[u8], k: usize) -> u32
@@ -73,6 +76,21 @@ pub fn listed_place(at: usize) -> usize
     ensures { λ r. ⌜ r ≡ listedPlace at ⌝ }
 {
     at + LISTED
+}
+
+// Stream `i` of those that stand from the place `listed` on.
+pub fn listed_at(m: &[u8], listed: usize, i: usize) -> u16
+    requires { ⌜ listed + 2 * i + 2 ≤ length (now m) ⌝ }
+    ensures { λ r. ⌜ r ≡ number 2 (now (m .entry)) (listed + 2 * i) ⌝ }
+{
+    u16_at(m, listed + LISTED_STREAM * i)
+}
+
+pub fn put_listed(m: &mut [u8], listed: usize, i: usize, stream: StreamNumber)
+    requires { ⌜ listed + 2 * i + 2 ≤ length (now m) ⌝ }
+    ensures { λ _. ⌜ now (m .exit) ≡ overlay (now (m .entry)) (listed + 2 * i) (numberBytes 2 (stream .value)) ⌝ }
+{
+    put_u16(m, listed + LISTED_STREAM * i, stream.value);
 }
 
 pub fn put_horizon(m: &mut [u8], at: usize, horizon: u16)

@@ -14,19 +14,6 @@ pub const ENCODER: u8 = 2;
 
 pub const FEBRUARY: u8 = 2;
 
-// The head: role, edition, then these, each of two bytes, then zeros.
-pub const LIMIT: usize = 2;
-
-pub const HELD: usize = 4;
-
-pub const COUNT: usize = 6;
-
-pub const DELETES_COUNT: usize = 8;
-
-pub const HEAD_REST: usize = 10;
-
-pub const HEAD_ZEROS: usize = 54;
-
 // The marks of the two kinds of parts.
 pub const NONTRAILER_MARKS: usize = 64;
 
@@ -52,10 +39,6 @@ pub const MOST_VALUE: u16 = 2_047;
 
 // What an entry's size has beside its name and its value.
 pub const ENTRY_SIZE: usize = 32;
-
-pub const FIRST_INDEX: u32 = 62;
-
-pub const LAST_INDEX: u32 = 134_217_727;
 
 pub const LAST_SENT_INDEX: u32 = 189;
 

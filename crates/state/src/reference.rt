@@ -1,6 +1,6 @@
 // What an encoder keeps for an entry's delete, by the entry's index: in the base a horizon for each kind of part, 38 bytes apart.
 ghost use mathlib.Core.Path.{_≡_};
-ghost use Prim.Native.Nat.{ℕ, _+_, _*_, _-_, _≤_};
+ghost use Prim.Native.Nat.{ℕ, _≤_};
 ghost use Rattle.state.specs.Layout.{nontrailerReference, trailerReference};
 use crate::layout::DELETE_LENGTH;
 use crate::layout::DELETES;

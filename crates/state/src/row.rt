@@ -4,7 +4,7 @@ ghost use Prim.Native.Nat.{ℕ, _+_, _≤_, _<_};
 ghost use lib.ListN.{length};
 ghost use Rattle.memory.specs.Bytes.{overlay};
 ghost use Rattle.memory.specs.Numbers.{numberBytes};
-ghost use Rattle.state.specs.Layout.{textPlace, rowPlace, offsetPlace, statusPlace, indexAt, offsetAt, nameLengthAt, valueLengthAt, statusAt, restAt};
+ghost use Rattle.state.specs.Layout.{offsetIn, nameLengthIn, valueLengthIn, statusIn, textPlace, rowPlace, offsetPlace, statusPlace, indexAt, offsetAt, nameLengthAt, valueLengthAt, statusAt, restAt};
 ghost use Rattle.state.specs.Rows.{rowLine};
 use crate::layout::TEXT;
 use crate::layout::row_place;
@@ -24,6 +24,9 @@ const STATUS: usize = 10;
 
 const REST: usize = 12;
 
+// What an encoder's row has as status where its entry is under deletion.
+pub const UNDER_DELETION: u16 = 1;
+
 // The entry's index.
 pub fn index_at(m: &[u8], i: usize) -> u32
     requires { ⌜ (i < 128) × (textPlace ≤ length (now m)) ⌝ }
@@ -37,21 +40,29 @@ pub fn offset_at(m: &[u8], i: usize) -> u16
     requires { ⌜ (i < 128) × (textPlace ≤ length (now m)) ⌝ }
     ensures { λ r. ⌜ r ≡ offsetAt (now (m .entry)) i ⌝ }
 {
-    u16_at(m, row_place(i) + OFFSET)
+    offset_in(m, row_place(i))
 }
 
 pub fn name_length_at(m: &[u8], i: usize) -> u16
     requires { ⌜ (i < 128) × (textPlace ≤ length (now m)) ⌝ }
     ensures { λ r. ⌜ r ≡ nameLengthAt (now (m .entry)) i ⌝ }
 {
-    u16_at(m, row_place(i) + NAME)
+    name_length_in(m, row_place(i))
 }
 
 pub fn value_length_at(m: &[u8], i: usize) -> u16
     requires { ⌜ (i < 128) × (textPlace ≤ length (now m)) ⌝ }
     ensures { λ r. ⌜ r ≡ valueLengthAt (now (m .entry)) i ⌝ }
 {
-    u16_at(m, row_place(i) + VALUE)
+    value_length_in(m, row_place(i))
+}
+
+// The bytes of both.
+pub fn text_length_at(m: &[u8], i: usize) -> usize
+    requires { ⌜ (i < 128) × (textPlace ≤ length (now m)) ⌝ }
+    ensures { λ r. ⌜ r ≡ nameLengthAt (now (m .entry)) i + valueLengthAt (now (m .entry)) i ⌝ }
+{
+    (name_length_at(m, i) as usize) + (value_length_at(m, i) as usize)
 }
 
 // At the decoder 0, or the place of the entry's delete and one; at the encoder 1 where the entry is under deletion, else 0.
@@ -59,7 +70,7 @@ pub fn status_at(m: &[u8], i: usize) -> u16
     requires { ⌜ (i < 128) × (textPlace ≤ length (now m)) ⌝ }
     ensures { λ r. ⌜ r ≡ statusAt (now (m .entry)) i ⌝ }
 {
-    u16_at(m, row_place(i) + STATUS)
+    status_in(m, row_place(i))
 }
 
 // The row's last four bytes, which are 0.
@@ -68,6 +79,35 @@ pub fn rest_at(m: &[u8], i: usize) -> u32
     ensures { λ r. ⌜ r ≡ restAt (now (m .entry)) i ⌝ }
 {
     u32_at(m, row_place(i) + REST)
+}
+
+// The same numbers of the row at the place `at`, for a walk over places.
+pub fn offset_in(m: &[u8], at: usize) -> u16
+    requires { ⌜ at + 16 ≤ length (now m) ⌝ }
+    ensures { λ r. ⌜ r ≡ offsetIn (now (m .entry)) at ⌝ }
+{
+    u16_at(m, at + OFFSET)
+}
+
+pub fn name_length_in(m: &[u8], at: usize) -> u16
+    requires { ⌜ at + 16 ≤ length (now m) ⌝ }
+    ensures { λ r. ⌜ r ≡ nameLengthIn (now (m .entry)) at ⌝ }
+{
+    u16_at(m, at + NAME)
+}
+
+pub fn value_length_in(m: &[u8], at: usize) -> u16
+    requires { ⌜ at + 16 ≤ length (now m) ⌝ }
+    ensures { λ r. ⌜ r ≡ valueLengthIn (now (m .entry)) at ⌝ }
+{
+    u16_at(m, at + VALUE)
+}
+
+pub fn status_in(m: &[u8], at: usize) -> u16
+    requires { ⌜ at + 16 ≤ length (now m) ⌝ }
+    ensures { λ r. ⌜ r ≡ statusIn (now (m .entry)) at ⌝ }
+{
+    u16_at(m, at + STATUS)
 }
 
 // The place of the entry's name in memory; its value stands behind it.

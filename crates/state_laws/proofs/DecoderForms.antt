@@ -10,7 +10,6 @@ use lib.ListN.{length, getD, length-map}
 use borrow.Author.Tests.{eqb-true, leb-true, eq-eqb, ne-eqb, le-leb}
 use Rattle.memory.specs.Choice.{pick}
 use Rattle.memory.specs.Bytes.{Has, Small}
-use Rattle.memory.specs.Numbers.{number}
 use Rattle.memory.proofs.Order.{split, pick-false}
 use Rattle.integers.specs.Integer.{largest}
 use Rattle.model.specs.Table.{Ascending, look}
@@ -18,7 +17,7 @@ use Rattle.model.specs.Parts.{Delete}
 use Rattle.model.specs.Decoder.{heldIndex, deleteIndex, Decoder, isSome, FineHeld}
 use Rattle.model_laws.proofs.Marks.{and-both}
 use Rattle.model_laws.proofs.Tables.{pick-eq}
-use Rattle.state.specs.Layout.{decoderLength, decoderRole, deletesPlace, deletePlace, limitOf, countOf, deleteCount, indexAt, statusAt}
+use Rattle.state.specs.Layout.{decoderLength, decoderRole, deletesPlace, limitOf, countOf, deleteCount, indexAt, statusAt, deleteIndexAt}
 use Rattle.state.specs.Rows.{Row, rowIndex, rowAt, rowsOf}
 use Rattle.state.specs.Front.{Front, marksOf}
 use Rattle.state.specs.DecoderState.{heldOfRow, deletesOf, decoderOf, deletesBytes, rowOfHeld, decoderFront}
@@ -48,7 +47,7 @@ pointing-rows m (suc k) i = ap (λ (n : ℕ). pick (eqb (statusAt m i) 0) 0 1 + 
 abbrev deletesIn : List ℕ → List Delete
 deletesIn m = deletesOf m 0 (deleteCount m)
 
-index-at : (m : List ℕ) (j : ℕ) → j < deleteCount m → getD (indexes (deletesIn m)) j 0 ≡ number 4 m (deletePlace j)
+index-at : (m : List ℕ) (j : ℕ) → j < deleteCount m → getD (indexes (deletesIn m)) j 0 ≡ deleteIndexAt m j
 index-at m j h = let e : 0 + j ≡ j = omega arith in rw e at (index-of m 0 (deleteCount m) j h)
 
 module _ (m : List ℕ) (i : ℕ) where
@@ -59,14 +58,14 @@ module _ (m : List ℕ) (i : ℕ) where
       let p = and-both (leb (statusAt m i) (deleteCount m)) _ (sym (pick-false (eqb (statusAt m i) 0) true _ n) ∙ ok) in
       let low : statusAt m i ≤ deleteCount m = leb-true _ _ (p .0) in
       let d : statusAt m i - 1 ≡ j = omega arith in
-      let x : number 4 m (deletePlace (statusAt m i - 1)) ≡ indexAt m i = eqb-true _ _ (p .1) in
+      let x : deleteIndexAt m (statusAt m i - 1) ≡ indexAt m i = eqb-true _ _ (p .1) in
       (omega (arith, length-deletesOf m 0 (deleteCount m)), index-at m j (omega arith) ∙ (rw d at x))
 
   points-status : Points (deletesIn m) (rowAt m i) → statusOk m i ≡ true
   unfolding statusOk
   points-status points =
       let s = statusAt m i in
-      pick-eq (λ (t : Bool). t ≡ true) s 0 true (leb s (deleteCount m) && eqb (number 4 m (deletePlace (s - 1))) (indexAt m i)) (λ e. refl)
+      pick-eq (λ (t : Bool). t ≡ true) s 0 true (leb s (deleteCount m) && eqb (deleteIndexAt m (s - 1)) (indexAt m i)) (λ e. refl)
       (λ n. let p = points (s - 1) (omega arith) in
       let low : s - 1 < deleteCount m = omega (arith, p .0, length-deletesOf m 0 (deleteCount m)) in
       both _ _ (le-leb s (deleteCount m) (omega arith)) (eq-eqb _ _ (sym (index-at m (s - 1) low) ∙ p .1)))

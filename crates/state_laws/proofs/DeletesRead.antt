@@ -18,7 +18,7 @@ use Rattle.instructions.specs.Instruction.{FineList}
 use Rattle.model.specs.Parts.{Delete}
 use Rattle.model.specs.Decoder.{deleteIndex}
 use Rattle.model_laws.proofs.Marks.{and-both}
-use Rattle.state.specs.Layout.{deletePlace}
+use Rattle.state.specs.Layout.{deletePlace, nontrailerList, trailerList, deleteIndexAt}
 use Rattle.state.specs.DecoderState.{streamsAt, listAt, deleteAt, deletesOf, streamsBytes, listBytes, deleteBytes, deletesBytes}
 use Rattle.state.specs.Forms.{streamsOk, listOk, deletesOk}
 use Rattle.state_laws.proofs.Each.{Each}
@@ -162,27 +162,27 @@ length-deletesOf m k zero = refl
 length-deletesOf m k (suc n) = ap suc (length-deletesOf m (k + 1) n)
 
 delete-back : (m : List ℕ) (k : ℕ) (d : Delete) → FineLists d → Has m (deletePlace k) (deleteBytes d)
-    → (deleteAt m k ≡ d) × (listOk m (deletePlace k + 4) ≡ true) × (listOk m (deletePlace k + 40) ≡ true)
+    → (deleteAt m k ≡ d) × (listOk m (nontrailerList k) ≡ true) × (listOk m (trailerList k) ≡ true)
 unfolding deleteAt deleteBytes
 delete-back m k d f h =
     let p = number-then 4 m (deletePlace k) (d .index) (listBytes (d .nontrailer) ++ listBytes (d .trailer)) h in
-    let e : deletePlace k + 4 + length (listBytes (d .nontrailer)) ≡ deletePlace k + 40 = omega (arith, length-listBytes (d .nontrailer) (f .nontrailer .1)) in
-    let index : number 4 m (deletePlace k) ≡ d .index = number-back 4 m (deletePlace k) (d .index) (f .index) (p .0) in
-    let q = list-back m (deletePlace k + 4) (d .nontrailer) (f .nontrailer) (has-left m (deletePlace k + 4) (listBytes (d .nontrailer)) (listBytes (d .trailer)) (p .1)) in
-    let r = list-back m (deletePlace k + 40) (d .trailer) (f .trailer)
-    (rw e at (has-right m (deletePlace k + 4) (listBytes (d .nontrailer)) (listBytes (d .trailer)) (p .1))) in
+    let e : nontrailerList k + length (listBytes (d .nontrailer)) ≡ trailerList k = omega (arith, length-listBytes (d .nontrailer) (f .nontrailer .1)) in
+    let index : deleteIndexAt m k ≡ d .index = number-back 4 m (deletePlace k) (d .index) (f .index) (p .0) in
+    let q = list-back m (nontrailerList k) (d .nontrailer) (f .nontrailer) (has-left m (nontrailerList k) (listBytes (d .nontrailer)) (listBytes (d .trailer)) (p .1)) in
+    let r = list-back m (trailerList k) (d .trailer) (f .trailer)
+    (rw e at (has-right m (nontrailerList k) (listBytes (d .nontrailer)) (listBytes (d .trailer)) (p .1))) in
     ((λ j. record { index = index j; nontrailer = q .0 j; trailer = r .0 j }), q .1, r .1)
 
-delete-has : (m : List ℕ) (k : ℕ) → Small m → deletePlace k + 76 ≤ length m → listOk m (deletePlace k + 4) ≡ true → listOk m (deletePlace k + 40) ≡ true
+delete-has : (m : List ℕ) (k : ℕ) → Small m → deletePlace k + 76 ≤ length m → listOk m (nontrailerList k) ≡ true → listOk m (trailerList k) ≡ true
     → Has m (deletePlace k) (deleteBytes (deleteAt m k)) × FineLists (deleteAt m k)
 unfolding deleteAt deleteBytes
 delete-has m k s h a b =
-    let p = list-has m (deletePlace k + 4) s (omega arith) a in
-    let q = list-has m (deletePlace k + 40) s (omega arith) b in
-    let l = listAt m (deletePlace k + 4) in
-    let e : deletePlace k + 4 + length (listBytes l) ≡ deletePlace k + 40 = omega (arith, length-listBytes l (p .1 .1)) in (
+    let p = list-has m (nontrailerList k) s (omega arith) a in
+    let q = list-has m (trailerList k) s (omega arith) b in
+    let l = listAt m (nontrailerList k) in
+    let e : nontrailerList k + length (listBytes l) ≡ trailerList k = omega (arith, length-listBytes l (p .1 .1)) in (
       then-number 4 m (deletePlace k) _ _ (bytes-back 4 m (deletePlace k) s (omega arith))
-          (has-join m (deletePlace k + 4) (listBytes l) _ (p .0) (rw e (q .0))),
+          (has-join m (nontrailerList k) (listBytes l) _ (p .0) (rw e (q .0))),
       record { index = number-bound 4 m (deletePlace k) s; nontrailer = p .1; trailer = q .1 },
     )
 
@@ -208,15 +208,15 @@ pub deletes-has : (m : List ℕ) (k n : ℕ) → Small m → deletePlace (k + n)
 unfolding deletesOf deletesOk deletesBytes
 deletes-has m k zero s h e = (tt, tt)
 deletes-has m k (suc n) s h e =
-    let p = and-both (listOk m (deletePlace k + 4)) _ e in
-    let q = and-both (listOk m (deletePlace k + 40)) _ (p .1) in
+    let p = and-both (listOk m (nontrailerList k)) _ e in
+    let q = and-both (listOk m (trailerList k)) _ (p .1) in
     let one = delete-has m k s (omega arith) (p .0) (q .0) in
     let rest = deletes-has m (k + 1) n s (omega arith) (q .1) in
     let d : deletePlace k + length (deleteBytes (deleteAt m k)) ≡ deletePlace (k + 1) = omega (arith, length-deleteBytes (deleteAt m k) (one .1)) in
     (has-join m (deletePlace k) (deleteBytes (deleteAt m k)) _ (one .0) (rw d (rest .0)), (one .1, rest .1))
 
 -- the index of a delete that is read
-pub index-of : (m : List ℕ) (k n j : ℕ) → j < n → getD (map deleteIndex (deletesOf m k n)) j 0 ≡ number 4 m (deletePlace (k + j))
+pub index-of : (m : List ℕ) (k n j : ℕ) → j < n → getD (map deleteIndex (deletesOf m k n)) j 0 ≡ deleteIndexAt m (k + j)
 unfolding deletesOf deleteAt
 index-of m k zero j h = absurd (omega arith)
 index-of m k (suc n) zero h = let e : k + 0 ≡ k = omega arith in rw e refl

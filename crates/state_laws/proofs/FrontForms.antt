@@ -21,6 +21,7 @@ use Rattle.model.specs.Table.{Ascending}
 use Rattle.model_laws.proofs.Marks.{and-both}
 use Rattle.state.specs.Layout.{
   february,
+  frontLength,
   marksPlace,
   roleOf,
   editionOf,
@@ -86,7 +87,7 @@ head-told who bytes m h =
     }
 
 -- the marks, as they are read
-module _ (m : List ℕ) (small : Small m) (long : 7232 ≤ length m) where
+module _ (m : List ℕ) (small : Small m) (long : frontLength ≤ length m) where
   marks-read : (p : Part) → wordsBytes (isSet m (marksPlace p)) 0 64 ≡ wordsBytes (λ s. not (marksOf m s p)) 0 64
   unfolding marksOf
   marks-read p =
@@ -136,12 +137,12 @@ module _ (also : ℕ → Bool) (m : List ℕ) (top : ℕ) (rows : rowsOk also m 
   pub also-each : (i : ℕ) → i < countOf m → also i ≡ true
   also-each i h = asked-each also m top (countOf m) 0 62 0 rows i (omega arith) (omega arith)
 
-pub front-holds : (also : ℕ → Bool) (m : List ℕ) (top who bytes : ℕ) → Small m → 7232 ≤ bytes → headOk who bytes m ≡ true
+pub front-holds : (also : ℕ → Bool) (m : List ℕ) (top who bytes : ℕ) → Small m → frontLength ≤ bytes → headOk who bytes m ≡ true
     → rowsOk also m top (countOf m) 0 62 0 ≡ true → HoldsFront (frontOf m) m
 front-holds also m top who bytes small enough head rows =
     let T = head-told who bytes m head in
     let rs : List Row = rowsOf m 0 (countOf m) in
-    let long : 7232 ≤ length m = omega (arith, T .long) in
+    let long : frontLength ≤ length m = omega (arith, T .long) in
     let R = rows-of also m top long (T .held) (countOf m) 0 62 0 rows in
     let n : length rs ≡ countOf m = length-rowsOf m 0 (countOf m) in
     let size : heldOf m ≡ rowsSize rs = omega (arith, size-of also m top long (T .held) (countOf m) 0 62 0 rows, rowsSize-text rs) in

@@ -4,7 +4,7 @@ use Prim.Native.Nat.{ℕ, _≤_, _<_}
 use mathlib.Core.List.{List, [], _∷_}
 use lib.ListN.{length}
 use Rattle.memory.specs.Bytes.{Has}
-use Rattle.state.specs.Layout.{marksPlace, rowsPlace, textPlace}
+use Rattle.state.specs.Layout.{frontLength, marksPlace, rowsPlace, textPlace}
 use Rattle.state.specs.Rows.{Row, rowsBytes, textBytes, rowsSize}
 use Rattle.state.specs.Front.{Front, headBytes, marksBytes}
 use Rattle.model.specs.Parts.{nontrailer}
@@ -28,7 +28,7 @@ pub record FineFront (f : Front) : Type 0 where
   pub rows : FineRows (f .rows)
 
 pub record HoldsFront (f : Front) (m : List ℕ) : Type 0 where
-  pub long : 7232 ≤ length m
+  pub long : frontLength ≤ length m
   pub fine : FineFront f
   pub head : Has m 0 (headBytes f)
   pub marks : Has m (marksPlace nontrailer) (marksBytes (f .marks))

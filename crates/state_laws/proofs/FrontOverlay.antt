@@ -8,6 +8,7 @@ use lib.ListN.{length}
 use Rattle.memory.specs.Bytes.{overlay, Has}
 use Rattle.memory.proofs.Overlay.{length-overlay, overlay-comm, overlay-same}
 use Rattle.memory.proofs.Places.{has-overlay, has-below}
+use Rattle.state.specs.Layout.{frontLength}
 use Rattle.state.specs.Rows.{rowsBytes, textBytes}
 use Rattle.state.specs.Front.{Front, headBytes, marksBytes, overlayFront}
 use Rattle.state_laws.proofs.FrontHolds.{FineFront, HoldsFront}
@@ -64,7 +65,7 @@ pub length-overlayFront : (f : Front) (m : List ℕ) → length (overlayFront f 
 unfolding overlayFront
 length-overlayFront f m = over-length (headBytes f) (marksBytes (f .marks)) (rowsBytes 0 (f .rows)) (textBytes (f .rows)) m
 
-pub overlay-holds : (f : Front) (m : List ℕ) → 7232 ≤ length m → FineFront f → HoldsFront f (overlayFront f m)
+pub overlay-holds : (f : Front) (m : List ℕ) → frontLength ≤ length m → FineFront f → HoldsFront f (overlayFront f m)
 unfolding overlayFront
 overlay-holds f m long F =
     let h : List ℕ = headBytes f in
@@ -96,7 +97,7 @@ overlay-self f m H =
 
 -- ---- what stands after it
 
-module _ (f : Front) (m : List ℕ) (at : ℕ) (xs : List ℕ) (after : 7232 ≤ at) where
+module _ (f : Front) (m : List ℕ) (at : ℕ) (xs : List ℕ) (after : frontLength ≤ at) where
   pub holds-beyond : HoldsFront f m → HoldsFront f (overlay m at xs)
   holds-beyond H =
       let S = sizes f (H .fine) in

@@ -15,14 +15,14 @@ use Rattle.memory.proofs.Numbers.{number-same}
 use Rattle.model.specs.Table.{Ascending, look}
 use Rattle.model.specs.Encoder.{Sent, sentIndex, FineSent}
 use Rattle.model_laws.proofs.Tables.{look-none, look-below}
-use Rattle.state.specs.Layout.{referencePlace}
+use Rattle.state.specs.Layout.{encoderLength, frontLength, referencePlace, nontrailerReference, trailerReference}
 use Rattle.state.specs.EncoderState.{referenceOver, referencesOver}
 use Rattle.state_laws.proofs.Each.{Each, each-weak}
 
 -- the two horizons of an entry stand at its index
 pub record HasReference (e : Sent) (m : List ℕ) : Type 0 where
-  pub nontrailer : Has m (referencePlace (e .index)) (numberBytes 2 (e .nontrailer))
-  pub trailer : Has m (referencePlace (e .index) + 38) (numberBytes 2 (e .trailer))
+  pub nontrailer : Has m (nontrailerReference (e .index)) (numberBytes 2 (e .nontrailer))
+  pub trailer : Has m (trailerReference (e .index)) (numberBytes 2 (e .trailer))
 
 abbrev pub HasReferences : List Sent → List ℕ → Type 0
 HasReferences es m = Each (λ (e : Sent). HasReference e m) es
@@ -37,7 +37,7 @@ module _ (e : Sent) (m : List ℕ) where
       length-overlay (overlay m at (numberBytes 2 (e .nontrailer))) (at + 38) (numberBytes 2 (e .trailer)) ∙ length-overlay m at (numberBytes 2 (e .nontrailer))
 
   -- it stands there once it is entered
-  pub reference-entered : 16960 ≤ length m → FineSent e → HasReference e (referenceOver e m)
+  pub reference-entered : encoderLength ≤ length m → FineSent e → HasReference e (referenceOver e m)
   unfolding referenceOver numberBytes
   reference-entered long fine =
       let at : ℕ = referencePlace (e .index) in
@@ -60,14 +60,14 @@ module _ (e : Sent) (m : List ℕ) where
       ∙ overlay-same m (at + 38) (numberBytes 2 (e .trailer)) (has .trailer)
 
   -- it changes nothing before the references and nothing after them
-  pub reference-before : (k : ℕ) → k < 7232 → getD (referenceOver e m) k 0 ≡ getD m k 0
+  pub reference-before : (k : ℕ) → k < frontLength → getD (referenceOver e m) k 0 ≡ getD m k 0
   unfolding referenceOver
   reference-before k h =
       let at : ℕ = referencePlace (e .index) in
       overlay-before (overlay m at (numberBytes 2 (e .nontrailer))) (at + 38) (numberBytes 2 (e .trailer)) k (omega arith)
       ∙ overlay-before m at (numberBytes 2 (e .nontrailer)) k (omega arith)
 
-  pub reference-after : FineSent e → (k : ℕ) → 16960 ≤ k → getD (referenceOver e m) k 0 ≡ getD m k 0
+  pub reference-after : FineSent e → (k : ℕ) → encoderLength ≤ k → getD (referenceOver e m) k 0 ≡ getD m k 0
   unfolding referenceOver numberBytes
   reference-after fine k h =
       let at : ℕ = referencePlace (e .index) in
@@ -76,7 +76,7 @@ module _ (e : Sent) (m : List ℕ) where
       ∙ overlay-after m at (numberBytes 2 (e .nontrailer)) k (omega arith)
 
   -- a store before the references may come first
-  pub reference-comm : (j : ℕ) (ys : List ℕ) → j + length ys ≤ 7232 → referenceOver e (overlay m j ys) ≡ overlay (referenceOver e m) j ys
+  pub reference-comm : (j : ℕ) (ys : List ℕ) → j + length ys ≤ frontLength → referenceOver e (overlay m j ys) ≡ overlay (referenceOver e m) j ys
   unfolding referenceOver
   reference-comm j ys h =
       let at : ℕ = referencePlace (e .index) in
@@ -86,7 +86,7 @@ module _ (e : Sent) (m : List ℕ) where
       ∙ overlay-comm (overlay m at nontrailer) j ys (at + 38) trailer (omega arith)
 
   -- and keeps one that stands there
-  pub reference-beyond : (j : ℕ) (ys : List ℕ) → j + length ys ≤ 7232 → HasReference e m → HasReference e (overlay m j ys)
+  pub reference-beyond : (j : ℕ) (ys : List ℕ) → j + length ys ≤ frontLength → HasReference e m → HasReference e (overlay m j ys)
   reference-beyond j ys h has =
       let at : ℕ = referencePlace (e .index) in
       record {
@@ -135,21 +135,21 @@ unfolding referencesOver
 length-referencesOver [] m = refl
 length-referencesOver (e ∷ es) m = length-referencesOver es (referenceOver e m) ∙ length-referenceOver e m
 
-pub references-before : (es : List Sent) (m : List ℕ) (k : ℕ) → k < 7232 → getD (referencesOver es m) k 0 ≡ getD m k 0
+pub references-before : (es : List Sent) (m : List ℕ) (k : ℕ) → k < frontLength → getD (referencesOver es m) k 0 ≡ getD m k 0
 unfolding referencesOver
 references-before [] m k h = refl
 references-before (e ∷ es) m k h = references-before es (referenceOver e m) k h ∙ reference-before e m k h
 
-pub references-after : (es : List Sent) (m : List ℕ) → Each FineSent es → (k : ℕ) → 16960 ≤ k → getD (referencesOver es m) k 0 ≡ getD m k 0
+pub references-after : (es : List Sent) (m : List ℕ) → Each FineSent es → (k : ℕ) → encoderLength ≤ k → getD (referencesOver es m) k 0 ≡ getD m k 0
 unfolding referencesOver
 references-after [] m fine k h = refl
 references-after (e ∷ es) m fine k h = references-after es (referenceOver e m) (fine .1) k h ∙ reference-after e m (fine .0) k h
 
-pub references-number : (es : List Sent) (m : List ℕ) (n at : ℕ) → at + n ≤ 7232 → number n (referencesOver es m) at ≡ number n m at
+pub references-number : (es : List Sent) (m : List ℕ) (n at : ℕ) → at + n ≤ frontLength → number n (referencesOver es m) at ≡ number n m at
 references-number es m n at h = number-same n (referencesOver es m) at m at (λ k b. references-before es m (at + k) (omega arith))
 
 -- what stands before the references stays
-pub references-has : (es : List Sent) (m : List ℕ) (i : ℕ) (xs : List ℕ) → i + length xs ≤ 7232 → Has m i xs → Has (referencesOver es m) i xs
+pub references-has : (es : List Sent) (m : List ℕ) (i : ℕ) (xs : List ℕ) → i + length xs ≤ frontLength → Has m i xs → Has (referencesOver es m) i xs
 references-has es m i [] h p = tt
 references-has es m i (x ∷ xs) h p = (
   omega (arith, length-referencesOver es m, p .0),
@@ -157,13 +157,13 @@ references-has es m i (x ∷ xs) h p = (
   references-has es m (i + 1) xs (omega arith) (p .2),
 )
 
-pub references-comm : (es : List Sent) (m : List ℕ) (j : ℕ) (ys : List ℕ) → j + length ys ≤ 7232
+pub references-comm : (es : List Sent) (m : List ℕ) (j : ℕ) (ys : List ℕ) → j + length ys ≤ frontLength
     → referencesOver es (overlay m j ys) ≡ overlay (referencesOver es m) j ys
 unfolding referencesOver
 references-comm [] m j ys h = refl
 references-comm (e ∷ es) m j ys h = ap (referencesOver es) (reference-comm e m j ys h) ∙ references-comm es (referenceOver e m) j ys h
 
-pub references-beyond : (es : List Sent) (m : List ℕ) (j : ℕ) (ys : List ℕ) → j + length ys ≤ 7232 → HasReferences es m
+pub references-beyond : (es : List Sent) (m : List ℕ) (j : ℕ) (ys : List ℕ) → j + length ys ≤ frontLength → HasReferences es m
     → HasReferences es (overlay m j ys)
 references-beyond es m j ys h = each-weak (λ e. HasReference e m) (λ e. HasReference e (overlay m j ys)) (λ e. reference-beyond e m j ys h) es
 
@@ -191,7 +191,7 @@ module _ (e : Sent) (fine : FineSent e) where
       (reference-beside e d m fine (others .0) (λ same. n .0 (sym same)) has)
 
 -- all stand there once they are entered
-pub references-entered : (lo : ℕ) (es : List Sent) (m : List ℕ) → 16960 ≤ length m → Ascending sentIndex lo es → Each FineSent es
+pub references-entered : (lo : ℕ) (es : List Sent) (m : List ℕ) → encoderLength ≤ length m → Ascending sentIndex lo es → Each FineSent es
     → HasReferences es (referencesOver es m)
 unfolding referencesOver
 references-entered lo [] m long order fine = tt

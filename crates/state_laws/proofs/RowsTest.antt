@@ -11,7 +11,7 @@ use Rattle.memory.proofs.Order.{split}
 use Rattle.memory.proofs.Places.{length-part}
 use Rattle.model.specs.Table.{Ascending}
 use Rattle.model_laws.proofs.Marks.{and-both}
-use Rattle.state.specs.Layout.{textPlace, heldOf, indexAt, offsetAt, nameLengthAt, valueLengthAt, restAt}
+use Rattle.state.specs.Layout.{frontLength, textPlace, heldOf, indexAt, offsetAt, nameLengthAt, valueLengthAt, restAt}
 use Rattle.state.specs.Rows.{Row, rowIndex, rowAt, rowsOf, textOf, textBytes}
 use Rattle.state.specs.Forms.{rowOk, rowsOk}
 use Rattle.state_laws.proofs.FrontLengths.{length-text}
@@ -111,7 +111,7 @@ module _ (also : ℕ → Bool) (m : List ℕ) (top : ℕ) where
       (G, rw (add-one (indexAt m i)) at (rows-each k (i + 1) (indexAt m i + 1) (o + (nameLengthAt m i + valueLengthAt m i)) (M .rows)))
 
   -- where the memory is long enough they are those of the row
-  module _ (long : 7232 ≤ length m) (few : heldOf m ≤ 4096) where
+  module _ (long : frontLength ≤ length m) (few : heldOf m ≤ 4096) where
     text-told : (k i low o : ℕ) → rowsOk also m top (suc k) i low o ≡ true → o + (nameLengthAt m i + valueLengthAt m i) ≤ 4096
     text-told k i low o h =
         omega (arith, rows-within k (i + 1) (indexAt m i + 1) (o + (nameLengthAt m i + valueLengthAt m i)) (more k i low o h .rows))

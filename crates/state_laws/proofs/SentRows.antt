@@ -12,7 +12,7 @@ use Rattle.memory.proofs.Order.{pick-both}
 use Rattle.memory.proofs.Numbers.{number-back, bytes-back}
 use Rattle.model.specs.Table.{Ascending, total, size}
 use Rattle.model.specs.Encoder.{Sent, sentIndex, sentSize, FineSent}
-use Rattle.state.specs.Layout.{referencePlace}
+use Rattle.state.specs.Layout.{encoderLength, referencePlace, nontrailerReference, trailerReference}
 use Rattle.state.specs.Rows.{Row, rowIndex, rowsSize}
 use Rattle.state.specs.EncoderState.{nontrailerAt, trailerAt, sentOfRow, rowOfSent}
 use Rattle.state_laws.proofs.FrontHolds.{FineRow, FineRows}
@@ -23,10 +23,10 @@ use Rattle.state_laws.proofs.References.{HasReference, HasReferences}
 
 module _ (m : List ℕ) (e : Sent) (fine : FineSent e) (has : HasReference e m) where
   pub nontrailer-back : nontrailerAt m (e .index) ≡ e .nontrailer
-  nontrailer-back = let h = fine .nontrailer in number-back 2 m (referencePlace (e .index)) (e .nontrailer) (omega arith) (has .nontrailer)
+  nontrailer-back = let h = fine .nontrailer in number-back 2 m (nontrailerReference (e .index)) (e .nontrailer) (omega arith) (has .nontrailer)
 
   pub trailer-back : trailerAt m (e .index) ≡ e .trailer
-  trailer-back = let h = fine .trailer in number-back 2 m (referencePlace (e .index) + 38) (e .trailer) (omega arith) (has .trailer)
+  trailer-back = let h = fine .trailer in number-back 2 m (trailerReference (e .index)) (e .trailer) (omega arith) (has .trailer)
 
   pub sent-back : sentOfRow m (rowOfSent e) ≡ e
   unfolding sentOfRow rowOfSent
@@ -83,7 +83,7 @@ module _ (m : List ℕ) (r : Row) (fine : SentRow m r) where
       (λ t. omega (arith, eqb-false (r .status) 1 t)) in
       rw s
 
-  pub row-stands : Small m → 16960 ≤ length m → HasReference (sentOfRow m r) m
+  pub row-stands : Small m → encoderLength ≤ length m → HasReference (sentOfRow m r) m
   unfolding sentOfRow
   row-stands small long =
       let h = fine .high in
@@ -99,7 +99,7 @@ module _ (m : List ℕ) where
   rows-back [] fine = refl
   rows-back (r ∷ rs) fine = ap₂ (λ (x : Row) (xs : List Row). x ∷ xs) (row-back m r (fine .0)) (rows-back rs (fine .1))
 
-  pub rows-stand : (rs : List Row) → Small m → 16960 ≤ length m → Each (SentRow m) rs → HasReferences (map (sentOfRow m) rs) m
+  pub rows-stand : (rs : List Row) → Small m → encoderLength ≤ length m → Each (SentRow m) rs → HasReferences (map (sentOfRow m) rs) m
   rows-stand rs small long =
       each-map (SentRow m) (λ e. HasReference e m) (sentOfRow m) (λ r fine. row-stands m r fine small long) rs
 

@@ -2,7 +2,8 @@
 // index, its name and its value, and a tab between them.
 ghost use mathlib.Core.Path.{_≡_};
 ghost use Prim.Native.Nat.{ℕ, _≤_};
-ghost use Rattle.statics.specs.Table.{staticText};
+ghost use Rattle.statics.specs.Table.{lastStatic, staticText};
+use integers::number::TableIndex;
 use statics::table::LAST;
 use statics::table::static_name;
 use statics::table::static_text;
@@ -18,19 +19,19 @@ fn print_entries(text: &[u8])
 {
     let mut i: u32 = 1;
     while i <= LAST {
-        print_entry(text, i);
+        print_entry(text, TableIndex::new(i));
         i += 1;
     }
 }
 
-fn print_entry(text: &[u8], i: u32)
+fn print_entry(text: &[u8], index: TableIndex)
     requires { ⌜ now text ≡ staticText ⌝ }
-    requires { ⌜ (1 ≤ i) × (i ≤ 61) ⌝ }
+    requires { ⌜ (1 ≤ index .value) × (index .value ≤ lastStatic) ⌝ }
 {
-    io::print_decimal(1, i as u64);
+    io::print_decimal(1, index.value as u64);
     io::write_all(1, b"\t");
-    io::write_all(1, static_name(text, i));
+    io::write_all(1, static_name(text, index));
     io::write_all(1, b"\t");
-    io::write_all(1, static_value(text, i));
+    io::write_all(1, static_value(text, index));
     io::write_all(1, b"\n");
 }

@@ -1,6 +1,3 @@
--- The static table of RFC 7541 and searches in it.
+-- The static table of RFC 7541.
 pub mod Ascii
 pub mod Table
-pub mod Search
-pub mod Hash
-pub mod Ends

@@ -14,6 +14,9 @@ pub record Entry : Type 0 where
 abbrev entry : String → String → Entry
 entry name value = record { name = bytes name; value = bytes value }
 
+abbrev pub lastStatic : ℕ
+lastStatic = 61
+
 -- the 61 entries in the order of their indexes, from 1
 unfoldable pub entries : List Entry
 entries =

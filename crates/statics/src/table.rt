@@ -3,7 +3,8 @@
 ghost use mathlib.Core.Path.{_≡_};
 ghost use Prim.Native.Nat.{ℕ, _+_, _≤_};
 ghost use lib.ListN.{length};
-ghost use Rattle.statics.specs.Table.{staticText, staticName, staticValue, placeOf};
+ghost use Rattle.statics.specs.Table.{lastStatic, staticText, staticName, staticValue, placeOf};
+use integers::number::TableIndex;
 
 pub const LAST: u32 = 61;
 
@@ -21,35 +22,36 @@ pub fn static_text() -> [u8; 684]
     *b":authority:methodGET:methodPOST:path/:path/index.html:schemehttp:schemehttps:status200:status204:status206:status304:status400:status404:status500accept-charsetaccept-encodinggzip, deflateaccept-languageaccept-rangesacceptaccess-control-allow-originageallowauthorizationcache-controlcontent-dispositioncontent-encodingcontent-languagecontent-lengthcontent-locationcontent-rangecontent-typecookiedateetagexpectexpiresfromhostif-matchif-modified-sinceif-none-matchif-rangeif-unmodified-sincelast-modifiedlinklocationmax-forwardsproxy-authenticateproxy-authorizationrangerefererrefreshretry-afterserverset-cookiestrict-transport-securitytransfer-encodinguser-agentvaryviawww-authenticate"
 }
 
-// The name of the entry with index `i`, as a part of the static text.
-pub fn static_name(text: &[u8], i: u32) -> &[u8]
+// The name of an entry, as a part of the static text.
+pub fn static_name(text: &[u8], index: TableIndex) -> &[u8]
     requires { ⌜ now text ≡ staticText ⌝ }
-    requires { ⌜ (1 ≤ i) × (i ≤ 61) ⌝ }
-    ensures { λ r. ⌜ now r ≡ staticName i ⌝ }
+    requires { ⌜ (1 ≤ index .value) × (index .value ≤ lastStatic) ⌝ }
+    ensures { λ r. ⌜ now r ≡ staticName (index .value) ⌝ }
 {
-    let p = static_place(i);
+    let p = static_place(index);
     let a = p.start as usize;
     let e = a + (p.name as usize);
     &text[a..e]
 }
 
-// The value of the entry with index `i`, as a part of the static text.
-pub fn static_value(text: &[u8], i: u32) -> &[u8]
+// The value of an entry, as a part of the static text.
+pub fn static_value(text: &[u8], index: TableIndex) -> &[u8]
     requires { ⌜ now text ≡ staticText ⌝ }
-    requires { ⌜ (1 ≤ i) × (i ≤ 61) ⌝ }
-    ensures { λ r. ⌜ now r ≡ staticValue i ⌝ }
+    requires { ⌜ (1 ≤ index .value) × (index .value ≤ lastStatic) ⌝ }
+    ensures { λ r. ⌜ now r ≡ staticValue (index .value) ⌝ }
 {
-    let p = static_place(i);
+    let p = static_place(index);
     let a = (p.start as usize) + (p.name as usize);
     let e = a + (p.value as usize);
     &text[a..e]
 }
 
-// Where the entry with index `i` stands.
-pub fn static_place(i: u32) -> StaticPlace
-    requires { ⌜ (1 ≤ i) × (i ≤ 61) ⌝ }
-    ensures { λ r. ⌜ r ≡ placeOf i ⌝ }
+// Where an entry stands.
+pub fn static_place(index: TableIndex) -> StaticPlace
+    requires { ⌜ (1 ≤ index .value) × (index .value ≤ lastStatic) ⌝ }
+    ensures { λ r. ⌜ r ≡ placeOf (index .value) ⌝ }
 {
+    let i = index.value;
     match i {
         1 => place(0, 10, 0),
         2 => place(10, 7, 3),

@@ -9,15 +9,19 @@ use Rattle.memory.specs.Numbers.{numberBytes}
 use Rattle.marks.specs.Marks.{wordsBytes}
 use Rattle.marks.proofs.Words.{words-length}
 use Rattle.model.specs.Table.{total}
+use Rattle.state.specs.Layout.{february, heldPlace, countPlace, deleteCountPlace}
 use Rattle.state.specs.Rows.{rowsSize}
 use Rattle.state.specs.Front.{headBytes, marksBytes}
-use Rattle.table_rows.proofs.Stores.{after}
+use Rattle.state.proofs.RowStores.{after}
 use Rattle.table.specs.Changes.{freshFront, started}
 
-pub head-stored : (m a b : List ℕ) (role limit : ℕ) → a ≡ overlay (set (set m 0 role) 1 2) 2 (numberBytes 2 limit) → b ≡ overlay a 4 (replicate 60 0)
-    → b ≡ overlay m 0 (headBytes (freshFront role limit))
+pub head-stored : (m a b c d e : List ℕ) (role limit : ℕ) → a ≡ overlay (set (set m 0 role) 1 february) 2 (numberBytes 2 limit)
+    → b ≡ overlay a heldPlace (numberBytes 2 0) → c ≡ overlay b countPlace (numberBytes 2 0) → d ≡ overlay c deleteCountPlace (numberBytes 2 0)
+    → e ≡ overlay d 10 (replicate 54 0) → e ≡ overlay m 0 (headBytes (freshFront role limit))
 unfolding headBytes rowsSize total numberBytes
-head-stored m a b role limit ea eb = eb ∙ ap (λ (l : List ℕ). overlay l 4 (replicate 60 0)) ea
+head-stored m a b c d e role limit ea eb ec ed ee =
+    ee ∙ ap (λ (l : List ℕ). overlay l 10 (replicate 54 0)) (ed ∙ ap (λ (l : List ℕ). overlay l deleteCountPlace (numberBytes 2 0)) (ec
+    ∙ ap (λ (l : List ℕ). overlay l countPlace (numberBytes 2 0)) (eb ∙ ap (λ (l : List ℕ). overlay l heldPlace (numberBytes 2 0)) ea)))
 
 pub marks-stored : (m a b c : List ℕ) (role limit : ℕ) → a ≡ overlay m 0 (headBytes (freshFront role limit))
     → b ≡ overlay a 64 (wordsBytes (λ s. true) 0 64) → c ≡ overlay b 576 (wordsBytes (λ s. true) 0 64) → c ≡ started m role limit

@@ -9,11 +9,11 @@ use Rattle.memory.specs.Numbers.{numberBytes}
 use Rattle.memory.proofs.Overlay.{length-overlay}
 use Rattle.memory.proofs.Places.{length-part, part-part, part-overlay, part-below, part-above}
 use Rattle.memory.proofs.Numbers.{length-numberBytes}
-use Rattle.state.specs.Layout.{rowPlace, textPlace, heldOf, countOf, offsetAt, nameLengthAt}
+use Rattle.state.specs.Layout.{heldPlace, countPlace, rowPlace, textPlace, heldOf, countOf, offsetAt, nameLengthAt}
 use Rattle.state.specs.Rows.{rowLine, nameAt}
+use Rattle.state.proofs.RowStores.{length-row}
 use Rattle.table.specs.Changes.{textOpened, rowOpened, openedAt, opened, Opening, NamedHere}
 use Rattle.table_rows.specs.Rows.{laid, recorded, startOf}
-use Rattle.table_rows.proofs.Stores.{length-row}
 use Rattle.table_rows.proofs.Laying.{length-laid, laid-above}
 
 -- ---- lengths
@@ -30,13 +30,13 @@ length-rowOpened m place count row =
 
 -- ---- stores into head and rows leave text
 
-module _ (at n : ℕ) (from : 3136 ≤ at) where
+module _ (at n : ℕ) (from : textPlace ≤ at) where
   recorded-text : (m : List ℕ) (held count : ℕ) → at + n ≤ length m → part (recorded m held count) at n ≡ part m at n
   unfolding recorded
   recorded-text m held count h =
       let one : List ℕ = numberBytes 2 held in
-      part-above (overlay m 4 one) at n 6 (numberBytes 2 count) (omega (arith, length-overlay m 4 one)) (omega (arith, length-numberBytes 2 count))
-      ∙ part-above m at n 4 one h (omega (arith, length-numberBytes 2 held))
+      part-above (overlay m heldPlace one) at n countPlace (numberBytes 2 count) (omega (arith, length-overlay m heldPlace one)) (omega (arith, length-numberBytes 2 count))
+      ∙ part-above m at n heldPlace one h (omega (arith, length-numberBytes 2 held))
 
   rowOpened-text : (m : List ℕ) (place count : ℕ) (row : List ℕ) → place ≤ count → count < 128 → length row ≡ 16 → at + n ≤ length m
       → part (rowOpened m place count row) at n ≡ part m at n
@@ -90,22 +90,24 @@ text-behind m offset text left o n h lo hi =
 -- ---- the name of row `named`, after the row was put in: its bytes, where they stand then
 
 module _ (m a : List ℕ) (place index name value named start : ℕ) (o : Opening m place name value) (w : NamedHere m place named)
-    (en : name ≡ nameLengthAt m named) (es : start ≡ offsetAt m named) (ea : a ≡ opened m place index name value) where
-  pub name-before : named < place → part a (textPlace + start) name ≡ nameAt m named
+    (en : name ≡ nameLengthAt m named) (es : start ≡ textPlace + offsetAt m named) (ea : a ≡ opened m place index name value) where
+  pub name-before : named < place → part a start name ≡ nameAt m named
   unfolding opened
   name-before h =
       let b : offsetAt m named + nameLengthAt m named ≤ startOf m place = w .before h in
-      ap (λ (l : List ℕ). part l (textPlace + start) name) ea
-      ∙ openedAt-text (textPlace + start) name (omega arith) m place index name value (countOf m) (heldOf m) (startOf m place) (o .below) (o .few) (omega arith)
-      ∙ text-before m (startOf m place) (name + value) (heldOf m - 32 * countOf m - startOf m place) (textPlace + start) name (omega arith) (omega arith)
-      ∙ (λ k. part m (textPlace + es k) (en k))
+      ap (λ (l : List ℕ). part l start name) ea
+      ∙ openedAt-text start name (omega arith) m place index name value (countOf m) (heldOf m) (startOf m place) (o .below) (o .few) (omega arith)
+      ∙ text-before m (startOf m place) (name + value) (heldOf m - 32 * countOf m - startOf m place) start name (omega arith) (omega arith)
+      ∙ (λ k. part m (es k) (en k))
 
-  pub name-behind : place ≤ named → part a (textPlace + start + (name + value)) name ≡ nameAt m named
+  pub name-behind : place ≤ named → part a (start + (name + value)) name ≡ nameAt m named
   unfolding opened
   name-behind h =
       let b : startOf m place ≤ offsetAt m named = w .behind h in
-      ap (λ (l : List ℕ). part l (textPlace + start + (name + value)) name) ea
-      ∙ openedAt-text (textPlace + start + (name + value)) name (omega arith) m place index name value (countOf m) (heldOf m) (startOf m place)
+      let left : ℕ = heldOf m - 32 * countOf m - startOf m place in
+      ap (λ (l : List ℕ). part l (start + (name + value)) name) ea
+      ∙ openedAt-text (start + (name + value)) name (omega arith) m place index name value (countOf m) (heldOf m) (startOf m place)
       (o .below) (o .few) (omega arith)
-      ∙ text-behind m (startOf m place) (name + value) (heldOf m - 32 * countOf m - startOf m place) start name (omega arith) (omega arith) (omega arith)
-      ∙ (λ k. part m (textPlace + es k) (en k))
+      ∙ (λ k. part (textOpened m (startOf m place) (name + value) left) (es k + (name + value)) name)
+      ∙ text-behind m (startOf m place) (name + value) left (offsetAt m named) name (omega arith) (omega arith) (omega arith)
+      ∙ (λ k. part m (textPlace + offsetAt m named) (en k))

@@ -3,9 +3,9 @@ use Prim.Native.Nat.{ℕ, _+_, _*_, _-_, _≤_, _<_}
 use mathlib.Core.List.{List, []}
 use lib.ListN.{length}
 use Rattle.memory.specs.Bytes.{overlay, moved}
-use Rattle.state.specs.Layout.{rowPlace, textPlace, heldOf, countOf, offsetAt, nameLengthAt, valueLengthAt}
+use Rattle.state.specs.Layout.{frontLength, marksPlace, rowPlace, textPlace, heldOf, countOf, offsetAt, nameLengthAt, valueLengthAt}
 use Rattle.table_rows.specs.Rows.{laid, recorded, startOf}
-use Rattle.model.specs.Parts.{noMarks}
+use Rattle.model.specs.Parts.{nontrailer, noMarks}
 use Rattle.state.specs.Rows.{rowLine}
 use Rattle.state.specs.Front.{Front, headBytes, marksBytes}
 
@@ -36,7 +36,7 @@ inserted m place index name value =
 
 -- what it relies on: "An insert that would pass it is 7, and otherwise room is always found", and a place is vacant
 pub record Opening (m : List ℕ) (place name value : ℕ) : Type 0 where
-  pub long : 7232 ≤ length m
+  pub long : frontLength ≤ length m
   pub few : countOf m < 128
   pub below : place ≤ countOf m
   pub heads : 32 * countOf m ≤ heldOf m
@@ -63,7 +63,7 @@ unfoldable pub removed : List ℕ → ℕ → List ℕ
 removed m place = removedAt m place (countOf m) (heldOf m) (offsetAt m place) (nameLengthAt m place + valueLengthAt m place)
 
 pub record Removing (m : List ℕ) (place : ℕ) : Type 0 where
-  pub long : 7232 ≤ length m
+  pub long : frontLength ≤ length m
   pub few : countOf m ≤ 128
   pub below : place < countOf m
   pub heads : 32 * countOf m ≤ heldOf m
@@ -76,4 +76,4 @@ abbrev pub freshFront : ℕ → ℕ → Front
 freshFront role limit = record { role = role; limit = limit; rows = []; deletes = 0; marks = noMarks }
 
 unfoldable pub started : List ℕ → ℕ → ℕ → List ℕ
-started m role limit = overlay (overlay m 0 (headBytes (freshFront role limit))) 64 (marksBytes noMarks)
+started m role limit = overlay (overlay m 0 (headBytes (freshFront role limit))) (marksPlace nontrailer) (marksBytes noMarks)

@@ -3,7 +3,7 @@ ghost use mathlib.Core.Path.{_≡_};
 ghost use Prim.Native.Nat.{ℕ, _+_, _≤_, _<_};
 ghost use lib.ListN.{length};
 ghost use Rattle.wire.specs.Text.{InString, stringLength, stringBytes};
-ghost use Rattle.state.specs.Layout.{nameLengthAt};
+ghost use Rattle.state.specs.Layout.{frontLength, textPlace, nameLengthAt};
 ghost use Rattle.state.specs.Rows.{rowLine, nameAt};
 ghost use Rattle.table_rows.specs.Rows.{startOf};
 ghost use Rattle.table.specs.Changes.{Opening, opened, textOpened, rowOpened, inserted, NamedHere};
@@ -11,20 +11,23 @@ use integers::number::TableIndex;
 use memory::copy::copy;
 use memory::copy::move_down;
 use memory::copy::move_up;
-use memory::number::u16_at;
-use state::layout::COUNT;
-use state::layout::HELD;
+use state::head::count_of;
+use state::head::held_of;
+use state::layout::ENTRY_SIZE;
+use state::layout::ROW_LENGTH;
 use state::layout::TEXT;
 use state::layout::row_place;
+use state::row::name_length_at;
+use state::row::put_row;
+use state::row::text_at;
 use table_rows::lay;
-use table_rows::put_row;
 use table_rows::record_insert;
 use table_rows::text_start;
 use wire::text::StringPlace;
 
 // Moves the text behind `offset` up by `text` bytes; `left` bytes stand there.
 fn open_text(m: &mut [u8], offset: usize, text: usize, left: usize)
-    requires { ⌜ (offset + text + left ≤ 4096) × (7232 ≤ length (now m)) ⌝ }
+    requires { ⌜ (offset + text + left ≤ 4096) × (frontLength ≤ length (now m)) ⌝ }
     ensures { λ _. ⌜ now (m .exit) ≡ textOpened (now (m .entry)) offset text left ⌝ }
 {
     move_up(m, TEXT + (offset + text), TEXT + offset, left);
@@ -40,14 +43,14 @@ fn open_row(
     name: u16,
     value: u16,
 )
-    requires { ⌜ (place ≤ count) × (count < 128) × (7232 ≤ length (now m)) ⌝ }
+    requires { ⌜ (place ≤ count) × (count < 128) × (frontLength ≤ length (now m)) ⌝ }
     ensures { λ _. ⌜ now (m .exit) ≡ rowOpened (now (m .entry)) place count (rowLine (index .value) offset name value 0) ⌝ }
 {
     move_up(
         m,
         row_place(place + 1),
         row_place(place),
-        16 * (count - place),
+        ROW_LENGTH * (count - place),
     );
     put_row(m, place, index, offset, name, value);
 }
@@ -55,13 +58,13 @@ fn open_row(
 // Puts a row for an entry with these lengths in, and answers the place of its text, which is still to come.
 pub fn open(m: &mut [u8], place: usize, index: TableIndex, name: usize, value: usize) -> usize
     requires { ⌜ Opening (now m) place name value ⌝ }
-    ensures { λ r. ⌜ r ≡ 3136 + startOf (now (m .entry)) place ⌝ }
+    ensures { λ r. ⌜ r ≡ textPlace + startOf (now (m .entry)) place ⌝ }
     ensures { λ _. ⌜ now (m .exit) ≡ opened (now (m .entry)) place (index .value) name value ⌝ }
 {
-    let count = u16_at(m, COUNT) as usize;
-    let held = u16_at(m, HELD) as usize;
+    let count = count_of(m) as usize;
+    let held = held_of(m) as usize;
     let offset = text_start(m, place);
-    open_text(m, offset, name + value, held - 32 * count - offset);
+    open_text(m, offset, name + value, held - ENTRY_SIZE * count - offset);
     open_row(
         m,
         place,
@@ -72,7 +75,7 @@ pub fn open(m: &mut [u8], place: usize, index: TableIndex, name: usize, value: u
         value as u16,
     );
     lay(m, place + 1, count + 1, offset + (name + value));
-    record_insert(m, (name + value + 32) as u16);
+    record_insert(m, (name + value + ENTRY_SIZE) as u16);
     TEXT + offset
 }
 
@@ -136,9 +139,8 @@ pub fn insert_like(
     requires { ⌜ Opening (now m) place (nameLengthAt (now m) named) (stringLength (now s) value) ⌝ }
     ensures { λ _. ⌜ now (m .exit) ≡ inserted (now (m .entry)) place (index .value) (nameAt (now (m .entry)) named) (stringBytes (now (s .entry)) value) ⌝ }
 {
-    let row = row_place(named);
-    let start = TEXT + (u16_at(m, row + 4) as usize);
-    let name = u16_at(m, row + 6) as usize;
+    let start = text_at(m, named);
+    let name = name_length_at(m, named) as usize;
     let text = value.length(s);
     let at = open(m, place, index, name, text);
     if named < place {

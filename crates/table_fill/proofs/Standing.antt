@@ -1,5 +1,5 @@
 -- What memory that passes the decoder's test has: what the table's searches and changes rely on, and head, rows and text lie in it.
--- From the claim of `changes` and the parts of the test.
+-- From the claim of `table_laws` and the parts of the test.
 use mathlib.Core.Path.{_≡_, refl}
 use Prim.Native.Nat.{ℕ, _*_, _≤_}
 use native.Mathlib.Omega.{arith}
@@ -10,7 +10,7 @@ use lib.Dec.{leb}
 use Rattle.memory.specs.Bytes.{Small}
 use Rattle.integers.specs.Integer.{largest}
 use Rattle.model_laws.proofs.Marks.{and-both}
-use Rattle.state.specs.Layout.{decoderLength, decoderRole, heldOf, countOf, deleteCount}
+use Rattle.state.specs.Layout.{frontLength, decoderLength, decoderRole, limitOf, heldOf, countOf, deleteCount}
 use Rattle.state.specs.DecoderState.{decoderOf}
 use Rattle.state.specs.Forms.{headOk, rowsOk, statusOk, formsDecoder}
 use Rattle.state_laws.proofs.RowsTest.{rows-within}
@@ -25,7 +25,8 @@ pub standing : (m : List ℕ) → Small m → formsDecoder m ≡ true → Standi
 standing m small forms = decoder-claim .changes m (decoderOf m) (record { small = small; forms = forms; state = refl })
 
 pub record Within (m : List ℕ) : Type 0 where
-  pub long : 7232 ≤ length m
+  pub long : frontLength ≤ length m
+  pub limit : limitOf m ≤ 4096
   pub held : heldOf m ≤ 4096
   pub count : countOf m ≤ 128
   pub heads : 32 * countOf m ≤ heldOf m
@@ -39,6 +40,7 @@ within m forms =
     let h = head-told decoderRole decoderLength m (p .0) in
     record {
       long = omega (arith, h .long);
+      limit = h .limit;
       held = h .held;
       count = h .count;
       heads = omega (arith, rows-within (statusOk m) m largest (countOf m) 0 62 0 (r .0));

@@ -2,23 +2,31 @@
 // step the head, the rows and the text in use are printed. `stdout` holds what must be printed; tests/table_fill makes it from docs/STATE.md.
 ghost use Prim.Native.Nat.{ℕ, _≤_};
 ghost use lib.ListN.{length};
+ghost use Rattle.state.specs.Layout.{frontLength};
 use integers::number::TableIndex;
-use memory::number::u16_at;
 use show::bytes;
 use show::number;
 use show::words;
 use state::decoder::forms_decoder;
-use state::layout::COUNT;
+use state::head::count_of;
+use state::head::held_of;
 use state::layout::DECODER;
 use state::layout::DECODER_LENGTH;
-use state::layout::HELD;
+use state::layout::ENTRY_SIZE;
+use state::layout::MOST_HELD;
+use state::layout::NONTRAILER_MARKS;
+use state::layout::ROW_LENGTH;
 use state::layout::TEXT;
 use state::layout::row_place;
 use table::insert::insert;
 use table::remove::remove;
 use table::start::start;
+use table_rows::fits;
 use table_search::find::Found;
 use table_search::find::find;
+
+// How many indexes are used, from the first on.
+const INDEXES: u32 = 128;
 
 fn main() {
     let mut memory = io::large_buffer();
@@ -29,7 +37,7 @@ fn run(m: &mut [u8]) {
     if m.len() < DECODER_LENGTH {
         return;
     }
-    start(m, DECODER, 4_096);
+    start(m, DECODER, MOST_HELD);
     dump(m);
     sizes_of_32(m);
     with_text(m);
@@ -37,27 +45,27 @@ fn run(m: &mut [u8]) {
 
 // 128 entries of size 32 put in, taken out in another order, and put in again.
 fn sizes_of_32(m: &mut [u8]) {
-    fill(m, 37, 128, 0);
+    fill(m, 37, INDEXES, 0);
     dump(m);
     empty(m, 53, 77);
     dump(m);
-    empty(m, 53, 128);
+    empty(m, 53, INDEXES);
     dump(m);
-    fill(m, 91, 128, 0);
+    fill(m, 91, INDEXES, 0);
     dump(m);
 }
 
 // The same with text, up to the limit.
 fn with_text(m: &mut [u8]) {
-    empty(m, 5, 128);
-    fill(m, 59, 128, 1);
+    empty(m, 5, INDEXES);
+    fill(m, 59, INDEXES, 1);
     dump(m);
     empty(m, 29, 60);
-    fill(m, 3, 128, 2);
+    fill(m, 3, INDEXES, 2);
     dump(m);
 }
 
-// Puts `n` entries in, each index `step` after the one before it, around the 128 from 62 on. `text` 0 gives entries of size 32.
+// Puts `n` entries in, each index `step` after the one before it, around those that are used. `text` 0 gives entries of size 32.
 fn fill(m: &mut [u8], step: u32, n: u32, text: u32) {
     let source: &[u8] = b"ABCDEFGHIJKLMNOPQRSTUVWXYZ012345";
     let mut k: u32 = 0;
@@ -65,8 +73,13 @@ fn fill(m: &mut [u8], step: u32, n: u32, text: u32) {
     while i < n {
         let name = (text % 8 * k % 17) as usize;
         let value = (text % 8 * (k + 3) % 14) as usize;
-        put(m, 62 + k, &source[..name], &source[..value]);
-        k = (k + step % 128) % 128;
+        put(
+            m,
+            TableIndex::new(TableIndex::FIRST + k),
+            &source[..name],
+            &source[..value],
+        );
+        k = (k + step % INDEXES) % INDEXES;
         i += 1;
     }
 }
@@ -76,43 +89,43 @@ fn empty(m: &mut [u8], step: u32, n: u32) {
     let mut k: u32 = 0;
     let mut i: u32 = 0;
     while i < n {
-        take(m, 62 + k);
-        k = (k + step % 128) % 128;
+        take(m, TableIndex::new(TableIndex::FIRST + k));
+        k = (k + step % INDEXES) % INDEXES;
         i += 1;
     }
 }
 
 // Puts an entry in, where the index is vacant and the limit is kept; else says so. An entry has at least size 32, so a place is left then.
-fn put(m: &mut [u8], index: u32, name: &[u8], value: &[u8])
-    requires { ⌜ (62 ≤ index) × (length (now name) ≤ 32) × (length (now value) ≤ 32) ⌝ }
+fn put(m: &mut [u8], index: TableIndex, name: &[u8], value: &[u8])
+    requires { ⌜ (62 ≤ index .value) × (length (now name) ≤ 32) × (length (now value) ≤ 32) ⌝ }
 {
     if !forms_decoder(m) {
         words(b"no state\n");
         return;
     }
-    let f = find(m, TableIndex { value: index });
+    let f = find(m, index);
     let Found::Vacant(place) = f else {
-        line(b"held ", index);
+        line(b"held ", index.value);
         return;
     };
-    if 4_096 < (u16_at(m, HELD) as usize) + name.len() + value.len() + 32 {
-        line(b"over the limit ", index);
+    if !fits(m, name.len() + value.len() + ENTRY_SIZE) {
+        line(b"over the limit ", index.value);
         return;
     }
-    insert(m, place, TableIndex { value: index }, name, value);
+    insert(m, place, index, name, value);
 }
 
 // Takes an entry out, where there is one.
-fn take(m: &mut [u8], index: u32)
-    requires { ⌜ 62 ≤ index ⌝ }
+fn take(m: &mut [u8], index: TableIndex)
+    requires { ⌜ 62 ≤ index .value ⌝ }
 {
     if !forms_decoder(m) {
         words(b"no state\n");
         return;
     }
-    let f = find(m, TableIndex { value: index });
+    let f = find(m, index);
     let Found::At(place) = f else {
-        line(b"vacant ", index);
+        line(b"vacant ", index.value);
         return;
     };
     remove(m, place);
@@ -124,21 +137,21 @@ fn dump(m: &[u8]) {
         words(b"no state\n");
         return;
     }
-    line_of(b"head ", &m[..64]);
-    let count = u16_at(m, COUNT) as usize;
+    line_of(b"head ", &m[..NONTRAILER_MARKS]);
+    let count = count_of(m) as usize;
     rows(m, count);
-    let end = TEXT + (u16_at(m, HELD) as usize) - 32 * count;
+    let end = TEXT + (held_of(m) as usize) - ENTRY_SIZE * count;
     line_of(b"text ", &m[TEXT..end]);
 }
 
 // The first `count` rows.
 fn rows(m: &[u8], count: usize)
-    requires { ⌜ (count ≤ 128) × (7232 ≤ length (now m)) ⌝ }
+    requires { ⌜ (count ≤ 128) × (frontLength ≤ length (now m)) ⌝ }
 {
     let mut i: usize = 0;
     while i < count {
         let at = row_place(i);
-        line_of(b"row ", &m[at..at + 16]);
+        line_of(b"row ", &m[at..at + ROW_LENGTH]);
         i += 1;
     }
 }

@@ -6,7 +6,9 @@ use mathlib.Core.List.{List}
 use lib.ListN.{length}
 use Rattle.memory.specs.Bytes.{part}
 use Rattle.memory.specs.Numbers.{number}
-use Rattle.state.specs.Layout.{countOf, rowPlace, offsetAt, nameLengthAt, valueLengthAt}
+use Rattle.memory.proofs.Places.{length-part}
+use Rattle.state.specs.Layout.{textPlace, countOf, rowPlace, offsetAt, nameLengthAt, valueLengthAt}
+use Rattle.state.specs.Rows.{nameAt, valueAt}
 use Rattle.table_search.specs.Search.{Ordered, RowStands, rowOf}
 
 -- a field of n bytes that stands k bytes into the row
@@ -24,10 +26,16 @@ row-stands m i d h = record { place = omega arith; held = omega arith }
 pub part-between : (m : List ℕ) (a b n k : ℕ) → a ≡ b → n ≡ k → part m a (a + n - a) ≡ part m b k
 part-between m a b n k d e = let f : a + n - a ≡ k = omega arith in ap (part m a) f ∙ ap (λ (j : ℕ). part m j k) d
 
--- the text of a row lies in memory
+-- the text of a row lies in memory, whole
 module _ (m : List ℕ) (o : Ordered m) (i : ℕ) (h : i < countOf m) where
-  pub name-end : 3136 + offsetAt m i + nameLengthAt m i ≤ length m
+  pub name-end : textPlace + offsetAt m i + nameLengthAt m i ≤ length m
   name-end = omega (arith, o .text i h, o .long)
 
-  pub value-end : 3136 + offsetAt m i + nameLengthAt m i + valueLengthAt m i ≤ length m
+  pub value-end : textPlace + offsetAt m i + nameLengthAt m i + valueLengthAt m i ≤ length m
   value-end = omega (arith, o .text i h, o .long)
+
+  pub length-name : length (nameAt m i) ≡ nameLengthAt m i
+  length-name = length-part m (textPlace + offsetAt m i) (nameLengthAt m i) name-end
+
+  pub length-value : length (valueAt m i) ≡ valueLengthAt m i
+  length-value = length-part m (textPlace + offsetAt m i + nameLengthAt m i) (valueLengthAt m i) value-end

@@ -7,7 +7,7 @@ use lib.ListN.{length}
 use lib.Dec.{eqb, ltb}
 use Rattle.memory.specs.Choice.{pick}
 use Rattle.memory.specs.Compare.{same}
-use Rattle.state.specs.Layout.{countOf, rowPlace, indexAt, offsetAt, nameLengthAt, valueLengthAt, statusAt}
+use Rattle.state.specs.Layout.{frontLength, rowsPlace, countOf, rowPlace, indexAt, offsetAt, nameLengthAt, valueLengthAt, statusAt}
 use Rattle.state.specs.Rows.{nameAt, valueAt}
 use Rattle.table_search.specs.declared.find.Found.{Found}
 use Rattle.table_search.specs.declared.find.Found.the-variants.{At, Vacant}
@@ -18,7 +18,7 @@ use Rattle.table_search.specs.declared.names.Paired.the-variants.{Both, 
 
 -- what searches rely on; memory that forms a state of either end has it
 pub record Ordered (m : List ℕ) : Type 0 where
-  pub long : 7232 ≤ length m
+  pub long : frontLength ≤ length m
   pub few : countOf m ≤ 128
   -- rows ascend from 62, so row i has at least index 62 + i
   pub low : (i : ℕ) → i < countOf m → 62 + i ≤ indexAt m i
@@ -27,7 +27,7 @@ pub record Ordered (m : List ℕ) : Type 0 where
 
 -- the row that stands at a place, by its number; and that there is one
 abbrev pub rowOf : ℕ → ℕ
-rowOf at = (at - 1088) / 16
+rowOf at = (at - rowsPlace) / 16
 
 pub record RowStands (m : List ℕ) (at : ℕ) : Type 0 where
   pub place : at ≡ rowPlace (rowOf at)

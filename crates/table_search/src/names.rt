@@ -5,11 +5,16 @@ ghost use lib.ListN.{length};
 ghost use Rattle.state.specs.Layout.{countOf, nameLengthAt};
 ghost use Rattle.table_search.specs.Search.{Ordered, RowStands, rowOf, servesAt, hasValueAt, servesBothAt, lowestRow, paired};
 use crate::text::stands_at;
-use memory::number::u16_at;
-use state::layout::COUNT;
+use state::head::count_of;
+use state::layout::ROW_LENGTH;
 use state::layout::ROWS;
 use state::layout::TEXT;
 use state::layout::row_place;
+use state::row::name_length_at;
+use state::row::name_length_in;
+use state::row::offset_in;
+use state::row::status_in;
+use state::row::value_length_in;
 
 pub enum Sought {
     Row(usize),
@@ -29,10 +34,10 @@ fn has_name_at(m: &[u8], at: usize, name: &[u8]) -> bool
     requires { ⌜ nameLengthAt (now m) (rowOf at) ≡ length (now name) ⌝ }
     ensures { λ r. ⌜ r ≡ servesAt (now (m .entry)) (now (name .entry)) (rowOf at) ⌝ }
 {
-    if u16_at(m, at + 10) != 0 {
+    if status_in(m, at) != 0 {
         return false;
     }
-    stands_at(m, TEXT + (u16_at(m, at + 4) as usize), name)
+    stands_at(m, TEXT + (offset_in(m, at) as usize), name)
 }
 
 // Has the row at this place this value?
@@ -40,11 +45,11 @@ fn has_value_at(m: &[u8], at: usize, value: &[u8]) -> bool
     requires { ⌜ RowStands (now m) at × Ordered (now m) ⌝ }
     ensures { λ r. ⌜ r ≡ hasValueAt (now (m .entry)) (now (value .entry)) (rowOf at) ⌝ }
 {
-    let n = u16_at(m, at + 8) as usize;
+    let n = value_length_in(m, at) as usize;
     if n != value.len() {
         return false;
     }
-    let start = TEXT + (u16_at(m, at + 4) as usize) + (u16_at(m, at + 6) as usize);
+    let start = TEXT + (offset_in(m, at) as usize) + (name_length_in(m, at) as usize);
     stands_at(m, start, value)
 }
 
@@ -53,12 +58,10 @@ fn has_name(m: &[u8], i: usize, name: &[u8]) -> bool
     requires { ⌜ (i < countOf (now m)) × Ordered (now m) ⌝ }
     ensures { λ r. ⌜ r ≡ servesAt (now (m .entry)) (now (name .entry)) i ⌝ }
 {
-    let at = row_place(i);
-    let n = u16_at(m, at + 6) as usize;
-    if n != name.len() {
+    if (name_length_at(m, i) as usize) != name.len() {
         return false;
     }
-    has_name_at(m, at, name)
+    has_name_at(m, row_place(i), name)
 }
 
 // The lowest entry with this name that is not under deletion.
@@ -66,7 +69,7 @@ pub fn find_name(m: &[u8], name: &[u8]) -> Sought
     requires { ⌜ Ordered (now m) ⌝ }
     ensures { λ r. ⌜ r ≡ lowestRow (servesAt (now (m .entry)) (now (name .entry))) (countOf (now (m .entry))) 0 ⌝ }
 {
-    let count = u16_at(m, COUNT) as usize;
+    let count = count_of(m) as usize;
     let mut i: usize = 0;
     while i < count {
         if has_name(m, i, name) {
@@ -83,25 +86,25 @@ pub fn find_pair(m: &[u8], name: &[u8], value: &[u8]) -> Paired
     ensures { λ r. ⌜ r ≡ paired (lowestRow (servesBothAt (now (m .entry)) (now (name .entry)) (now (value .entry))) (countOf (now (m .entry))) 0)
         (lowestRow (servesAt (now (m .entry)) (now (name .entry))) (countOf (now (m .entry))) 0) ⌝ }
 {
-    let end = row_place(u16_at(m, COUNT) as usize);
+    let end = row_place(count_of(m) as usize);
     let n = name.len();
     let mut first: usize = 0;
     let mut at = ROWS;
     while at < end {
-        if (u16_at(m, at + 6) as usize) == n {
+        if (name_length_in(m, at) as usize) == n {
             if has_name_at(m, at, name) {
                 if has_value_at(m, at, value) {
-                    return Paired::Both((at - ROWS) / 16);
+                    return Paired::Both((at - ROWS) / ROW_LENGTH);
                 }
                 if first == 0 {
                     first = at;
                 }
             }
         }
-        at += 16;
+        at += ROW_LENGTH;
     }
     if first == 0 {
         return Paired::Nothing;
     }
-    Paired::Name((first - ROWS) / 16)
+    Paired::Name((first - ROWS) / ROW_LENGTH)
 }

@@ -1,12 +1,16 @@
 // Text for the standard output, gathered in a lent buffer and written when that is full. `n` bytes of the buffer are in use, and each
 // function answers how many are then; an `n` above its length counts as a full buffer.
+use tokens::hex::BASE;
+
+// How many decimal digits a number of 64 bits has at most.
+const MOST_DIGITS: usize = 20;
 
 pub fn byte(out: &mut [u8], n: usize, c: u8) -> usize {
     if n < out.len() {
         out[n] = c;
         return n + 1;
     }
-    io::write_all(1, out);
+    io::write_all(libc::STDOUT_FILENO, out);
     if out.len() == 0 {
         return 0;
     }
@@ -26,7 +30,7 @@ pub fn words(out: &mut [u8], n: usize, text: &[u8]) -> usize {
 
 // A number in decimal digits.
 pub fn number(out: &mut [u8], n: usize, v: u64) -> usize {
-    let mut digits = [0u8; 20];
+    let mut digits = [0u8; MOST_DIGITS];
     let k = io::decimal(v, &mut digits);
     words(out, n, &digits[..k])
 }
@@ -42,8 +46,8 @@ fn digit(d: u8) -> u8 {
 
 // A byte as two hexadecimal digits.
 pub fn pair(out: &mut [u8], n: usize, c: u8) -> usize {
-    let k = byte(out, n, digit(c / 16));
-    byte(out, k, digit(c % 16))
+    let k = byte(out, n, digit(c / BASE));
+    byte(out, k, digit(c % BASE))
 }
 
 // Bytes as hexadecimal digits.
@@ -60,8 +64,8 @@ pub fn bytes(out: &mut [u8], n: usize, s: &[u8]) -> usize {
 // Writes what is gathered.
 pub fn flush(out: &[u8], n: usize) {
     if n < out.len() {
-        io::write_all(1, &out[..n]);
+        io::write_all(libc::STDOUT_FILENO, &out[..n]);
     } else {
-        io::write_all(1, out);
+        io::write_all(libc::STDOUT_FILENO, out);
     }
 }

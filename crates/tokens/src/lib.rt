@@ -7,10 +7,14 @@ ghost use Rattle.tokens.specs.Numbers.{digitOf, numberOf};
 
 pub mod hex;
 
+use crate::hex::digit;
 use memory::compare::same;
 
 // How many bytes one word can say.
 pub const MOST_BYTES: usize = 20_000;
+
+// The base of the numbers.
+const BASE: u64 = 10;
 
 // Where a word stands in its line: from the place `from` up to the place `to`.
 pub struct Word {
@@ -42,14 +46,14 @@ fn past_spaces(text: &[u8], at: usize) -> usize {
     i
 }
 
-// The place of the first space from the place `at` on, or the end of the text.
-fn word_end(text: &[u8], at: usize) -> usize
+// The place of the first such character from the place `at` on, or the end of the text.
+pub fn find(text: &[u8], at: usize, c: u8) -> usize
     requires { ⌜ at ≤ length (now text) ⌝ }
     ensures { λ r. ⌜ (at ≤ r) × (r ≤ length (now (text .entry))) ⌝ }
 {
     let mut i = at;
     while i < text.len() {
-        if text[i] == b' ' {
+        if text[i] == c {
             return i;
         }
         i += 1;
@@ -68,7 +72,7 @@ pub fn next_word(text: &[u8], at: usize) -> Word
             to: text.len(),
         };
     }
-    let to = word_end(text, from);
+    let to = find(text, from, b' ');
     Word { from, to }
 }
 
@@ -82,25 +86,23 @@ pub fn is(word: &[u8], other: &[u8]) -> bool
     same(word, 0, other, 0, word.len())
 }
 
-// The value of a decimal digit, and 10 for any other character.
+// The value of a decimal digit, and `BASE` for any other character.
 fn decimal_digit(c: u8) -> u64
     ensures { λ r. ⌜ (r ≡ digitOf c) × (r ≤ 10) ⌝ }
 {
     match c {
         b'0'..=b'9' => (c - b'0') as u64,
-        _ => 10,
+        _ => BASE,
     }
 }
 
-// The value of a hexadecimal digit, and 16 for any other character.
+// The value of a hexadecimal digit in either case, and `hex::BASE` for any other character.
 fn hex_digit(c: u8) -> u8
     ensures { λ r. ⌜ r ≤ 16 ⌝ }
 {
     match c {
-        b'0'..=b'9' => c - b'0',
-        b'a'..=b'f' => c - b'a' + 10,
         b'A'..=b'F' => c - b'A' + 10,
-        _ => 16,
+        _ => digit(c),
     }
 }
 
@@ -115,13 +117,13 @@ pub fn number(word: &[u8]) -> NumberRead
     let mut i: usize = 0;
     while i < word.len() {
         let d = decimal_digit(word[i]);
-        if d == 10 {
+        if d == BASE {
             return NumberRead::Bad;
         }
-        if (u64::MAX - d) / 10 < n {
+        if (u64::MAX - d) / BASE < n {
             return NumberRead::Bad;
         }
-        n = n * 10 + d;
+        n = n * BASE + d;
         i += 1;
     }
     NumberRead::Value(n)
@@ -145,14 +147,14 @@ pub fn bytes(word: &[u8], out: &mut [u8], at: usize) -> BytesRead {
     let mut i: usize = 0;
     while i < n {
         let high = hex_digit(word[2 * i]);
-        if high == 16 {
+        if high == hex::BASE {
             return BytesRead::Bad;
         }
         let low = hex_digit(word[2 * i + 1]);
-        if low == 16 {
+        if low == hex::BASE {
             return BytesRead::Bad;
         }
-        out[at + i] = 16 * high + low;
+        out[at + i] = hex::BASE * high + low;
         i += 1;
     }
     BytesRead::Put(at + n)

@@ -1,4 +1,6 @@
 // How many of each kind there were.
+use integers::answer::DONE;
+use integers::answer::WAITS;
 use recording::Kind;
 
 // How many calls, and lines that are no calls; of the blocks offered to the decoder, those done, told to wait and refused; and how many
@@ -34,7 +36,7 @@ impl Tally {
         if let Kind::DecoderBlock = kind {
             return self.with_block(answer);
         }
-        if answer != 0 {
+        if answer != DONE {
             self.others = more(self.others);
         }
         self
@@ -42,8 +44,8 @@ impl Tally {
 
     fn with_block(mut self, answer: u8) -> Tally {
         match answer {
-            0 => self.done = more(self.done),
-            1 => self.waiting = more(self.waiting),
+            DONE => self.done = more(self.done),
+            WAITS => self.waiting = more(self.waiting),
             _ => self.refused = more(self.refused),
         }
         self

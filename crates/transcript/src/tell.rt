@@ -1,9 +1,12 @@
 // What is printed, a line at a time.
 use crate::tally::Tally;
+use integers::answer::DONE;
+use integers::answer::WAITS;
 use labels::answer_name;
 use labels::entry;
 use labels::fault_name;
 use labels::kind_name;
+use labels::not_a_call;
 use labels::part_name;
 use recording::Call;
 use recording::Fault;
@@ -11,6 +14,9 @@ use recording::Kind;
 use reply::Reply;
 use reports::readable::report;
 use text_io::print;
+
+// How many numbers the last line has.
+const COUNTS: usize = 7;
 
 fn end_line(text: &mut [u8], n: usize) {
     let a = print::byte(text, n, b'\n');
@@ -43,11 +49,11 @@ fn block(text: &mut [u8], stream: u64, part: u64, r: Reply, output: &[u8]) {
 fn outcome(text: &mut [u8], n: usize, r: Reply, output: &[u8]) -> usize {
     let answer = r.number;
     match answer {
-        0 => {
+        DONE => {
             let a = print::words(text, n, b"done: ");
             fields(text, a, output, r.first as usize)
         }
-        1 => {
+        WAITS => {
             let a = print::words(text, n, b"waits for index ");
             print::number(text, a, r.first as u64)
         }
@@ -70,7 +76,7 @@ pub fn tell(text: &mut [u8], call: Call, r: Reply, output: &[u8]) {
         block(text, call.first, call.second, r, output);
         return;
     }
-    if r.number == 0 {
+    if r.number == DONE {
         return;
     }
     let a = kind_name(text, 0, kind);
@@ -79,27 +85,17 @@ pub fn tell(text: &mut [u8], call: Call, r: Reply, output: &[u8]) {
     end_line(text, c);
 }
 
-fn not_a_call(text: &mut [u8], number: u64) -> usize {
-    let a = print::words(text, 0, b"line ");
-    let b = print::number(text, a, number);
-    print::words(text, b, b": not a call: ")
-}
-
+// A line that is no call.
 pub fn bad_line(text: &mut [u8], number: u64, fault: Fault) {
-    let a = not_a_call(text, number);
-    let b = fault_name(text, a, fault);
-    end_line(text, b);
-}
-
-pub fn long_line(text: &mut [u8], number: u64) {
-    let a = not_a_call(text, number);
-    let b = print::words(text, a, b"longer than 65,535 characters");
-    end_line(text, b);
+    let a = not_a_call(text, 0, number);
+    let b = print::words(text, a, b": ");
+    let c = fault_name(text, b, fault);
+    end_line(text, c);
 }
 
 // How many lines and calls there were, and what became of them.
 pub fn summary(text: &mut [u8], lines: u64, t: Tally) {
-    let counts = [
+    let counts: [u64; COUNTS] = [
         lines,
         t.calls,
         t.bad,
@@ -111,7 +107,7 @@ pub fn summary(text: &mut [u8], lines: u64, t: Tally) {
     let table =
         b" lines, \n calls, \n bad lines; blocks: \n done, \n waiting, \n refused; other calls: \n refused\n";
     let mut n: usize = 0;
-    for k in 0..7 {
+    for k in 0..COUNTS {
         n = print::number(text, n, counts[k]);
         n = entry(text, n, table, k);
     }

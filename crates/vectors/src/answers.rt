@@ -9,6 +9,8 @@ use instructions::read::InstructionPlace;
 use instructions::read::InstructionRead;
 use instructions::read::read_for_decoder;
 use instructions::read::read_for_encoder;
+use integers::answer::DONE;
+use integers::byte::wide;
 use integers::integer::IntRead;
 use integers::integer::WireInt;
 use show::bytes;
@@ -25,6 +27,9 @@ use wire::text::NAME_LIMIT;
 use wire::text::StringRead;
 use wire::text::VALUE_LIMIT;
 use wire::text::read_string;
+
+// The values of a byte.
+const BYTE: u32 = 256;
 
 pub fn answer(kind: u8, width: u8, s: &[u8]) {
     match kind {
@@ -70,15 +75,9 @@ fn written(width: u8, s: &[u8]) {
     if s.len() != 5 {
         return;
     }
-    let high = wide(s[1]) * 256 + wide(s[2]);
-    let low = wide(s[3]) * 256 + wide(s[4]);
-    write(width_of(width), wide(s[0]), high * 65_536 + low);
-}
-
-fn wide(x: u8) -> u32
-    ensures { λ r. ⌜ r ≤ 255 ⌝ }
-{
-    x as u32
+    let high = wide(s[1]) * BYTE + wide(s[2]);
+    let low = wide(s[3]) * BYTE + wide(s[4]);
+    write(width_of(width), wide(s[0]), high * (BYTE * BYTE) + low);
 }
 
 // Nothing for a value that is too large, or where the bits `top` are not above the prefix.
@@ -89,7 +88,7 @@ fn write(width: u32, top: u32, value: u32)
         return;
     }
     let full = 1u32 << width;
-    if 256 - top < full {
+    if BYTE - top < full {
         return;
     }
     let mut out = [0u8; 8];
@@ -142,7 +141,7 @@ fn instruction(s: &[u8], r: InstructionRead) {
 // A whole block: its representations, if it has no refusal, and the answer.
 fn block(s: &[u8]) {
     let code = check_block(s);
-    if code == 0 {
+    if code == DONE {
         representations(s);
     }
     refusal(code);

@@ -8,7 +8,7 @@ use lib.ListN.{length}
 use lib.Dec.{ltb, leb, eqb}
 use Rattle.memory.specs.Choice.{pick, need}
 use Rattle.integers.specs.Answers.{Answer, done, refusal, bad-stream-list}
-use Rattle.integers.specs.Integer.{readInt, onInt, intWire}
+use Rattle.integers.specs.Integer.{lastStream, readInt, onInt, intWire}
 use Rattle.wire.specs.declared.stream_list.ListPlace.{ListPlace}
 use Rattle.wire.specs.declared.stream_list.DeltaRead.{DeltaRead}
 use Rattle.wire.specs.declared.stream_list.DeltaRead.the-variants.{Stream, Refused as DeltaRefused}
@@ -57,12 +57,19 @@ abbrev pub onList {ℓ} : {X : Type ℓ} → (ℕ → X) → ListRead → (ListP
 onList refused (Found p next) f = f p next
 onList refused (Refused number) f = refused number
 
+-- "Horizon at most 4,096, count at most 16"
+abbrev pub horizonLimit : ℕ
+horizonLimit = 4096
+
+abbrev pub countLimit : ℕ
+countLimit = 16
+
 -- the delta at the place at, counted from last: "deltas at least 1, listed streams at most 4,095; else 14"
 unfoldable pub readDelta : List ℕ → ℕ → ℕ → DeltaRead
 readDelta s at last =
     onInt DeltaRefused (readInt 8 s at) (λ delta next.
     need (ltb 0 delta) (DeltaRefused bad-stream-list)
-    (need (leb (last + delta) 4095) (DeltaRefused bad-stream-list)
+    (need (leb (last + delta) lastStream) (DeltaRefused bad-stream-list)
     (Stream (record { value = last + delta }) next)))
 
 -- n deltas from the place at on, each from the stream before it
@@ -79,28 +86,28 @@ streamsFrom (suc n) s at last = onDelta (λ number. []) (readDelta s at last) (�
 abbrev pub listOf : List ℕ → ListPlace → StreamList
 listOf s p = record { horizon = p .horizon; streams = streamsFrom (p .count) s (p .deltas) (p .horizon) }
 
--- "Horizon at most 4,096, count at most 16": each is judged before what follows it is looked for
+-- the horizon and the count are each judged before what follows it is looked for
 unfoldable pub readList : List ℕ → ℕ → ListRead
 readList s at =
     onInt Refused (readInt 8 s at) (λ horizon after.
-    need (leb horizon 4096) (Refused bad-stream-list)
+    need (leb horizon horizonLimit) (Refused bad-stream-list)
     (onInt Refused (readInt 8 s after) (λ count deltas.
-    need (leb count 16) (Refused bad-stream-list)
+    need (leb count countLimit) (Refused bad-stream-list)
     (onDeltas Refused (readDeltas count s deltas horizon) (λ next.
     Found (record { horizon = horizon; count = count; deltas = deltas }) next)))))
 
 -- the place lies in s, and its deltas can be read there again
 pub record InList (s : List ℕ) (p : ListPlace) : Type 0 where
-  pub near : p .horizon ≤ 4096
-  pub few : p .count ≤ 16
+  pub near : p .horizon ≤ horizonLimit
+  pub few : p .count ≤ countLimit
   pub end : ℕ
   pub within : end ≤ length s
   pub deltas : readDeltas (p .count) s (p .deltas) (p .horizon) ≡ End end
 
--- streams that can be listed after last: strictly ascending, at most 4,095
+-- streams that can be listed after last: strictly ascending
 abbrev pub Fits : ℕ → List ℕ → Type 0
 Fits last [] = Unit {0}
-Fits last (x ∷ xs) = (last < x) × (x ≤ 4095) × Fits x xs
+Fits last (x ∷ xs) = (last < x) × (x ≤ lastStream) × Fits x xs
 
 -- the bytes that say the deltas, and the list
 unfoldable pub deltasWire : ℕ → List ℕ → List ℕ

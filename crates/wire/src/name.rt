@@ -4,12 +4,14 @@ ghost use Prim.Native.Nat.{ℕ, _+_, _^_, _≤_};
 ghost use lib.ListN.{length};
 ghost use Rattle.memory.specs.Bytes.{overlay};
 ghost use Rattle.integers.specs.Integer.{largest};
+ghost use Rattle.wire.specs.Text.{nameLimit};
 ghost use Rattle.wire.specs.Name.{Name, nameAnswer, readName, nameWire};
 use crate::text::NAME_LIMIT;
 use crate::text::StringPlace;
 use crate::text::StringRead;
 use crate::text::read_string;
 use crate::text::write_string;
+use integers::answer::DONE;
 use integers::integer::IntRead;
 use integers::integer::WireInt;
 use integers::number::TableIndex;
@@ -31,7 +33,7 @@ impl NameRead {
         ensures { λ r. ⌜ r ≡ nameAnswer self .number ⌝ }
     {
         match self {
-            NameRead::Found(_, _) => 0,
+            NameRead::Found(_, _) => DONE,
             NameRead::Refused(number) => number,
         }
     }
@@ -48,7 +50,7 @@ pub fn read_name(s: &[u8], at: usize, width: u32) -> NameRead
     };
     let index = n.value;
     if index != 0 {
-        return NameRead::Found(NamePlace::Index(TableIndex { value: index }), next);
+        return NameRead::Found(NamePlace::Index(TableIndex::new(index)), next);
     }
     let t = read_string(s, next, NAME_LIMIT);
     let StringRead::Found(place, after) = t else {
@@ -72,7 +74,7 @@ pub fn write_name_index(index: TableIndex, out: &mut [u8], at: usize, width: u32
 // Writes a name by its bytes, and answers the place after it.
 pub fn write_name_text(name: &[u8], out: &mut [u8], at: usize, width: u32, top: u32) -> usize
     requires { ⌜ (width ≤ 8) × (top + 2 ^ width ≤ 256) ⌝ }
-    requires { ⌜ length (now name) ≤ 255 ⌝ }
+    requires { ⌜ length (now name) ≤ nameLimit ⌝ }
     requires { ⌜ at + length (nameWire width top (Name.literal (now name))) ≤ length (now out) ⌝ }
     ensures { λ r. ⌜ r ≡ at + length (nameWire width top (Name.literal (now (name .entry)))) ⌝ }
     ensures { λ _. ⌜ now (out .exit) ≡ overlay (now (out .entry)) at (nameWire width top (Name.literal (now (name .entry)))) ⌝ }

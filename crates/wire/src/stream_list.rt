@@ -3,8 +3,9 @@ ghost use mathlib.Core.Path.{_≡_};
 ghost use Prim.Native.Nat.{ℕ, _+_, _≤_};
 ghost use lib.ListN.{length};
 ghost use Rattle.memory.specs.Bytes.{overlay};
-ghost use Rattle.wire.specs.StreamList.{deltaAnswer, deltasAnswer, listAnswer, readDelta, readDeltas, readList, Fits, deltasWire, listWire};
+ghost use Rattle.wire.specs.StreamList.{horizonLimit, countLimit, deltaAnswer, deltasAnswer, listAnswer, readDelta, readDeltas, readList, Fits, deltasWire, listWire};
 use integers::answer::BAD_STREAM_LIST;
+use integers::answer::DONE;
 use integers::integer::IntRead;
 use integers::integer::WireInt;
 use integers::number::StreamNumber;
@@ -12,8 +13,6 @@ use integers::number::StreamNumber;
 pub const HORIZON_LIMIT: u32 = 4_096;
 
 pub const COUNT_LIMIT: u32 = 16;
-
-pub const LAST_STREAM: u32 = 4_095;
 
 // A list as it stands in the bytes: the horizon, how many streams are listed, and where their deltas start.
 pub struct ListPlace {
@@ -45,7 +44,7 @@ impl DeltaRead {
         ensures { λ r. ⌜ r ≡ deltaAnswer self .number ⌝ }
     {
         match self {
-            DeltaRead::Stream(_, _) => 0,
+            DeltaRead::Stream(_, _) => DONE,
             DeltaRead::Refused(number) => number,
         }
     }
@@ -56,7 +55,7 @@ impl DeltasRead {
         ensures { λ r. ⌜ r ≡ deltasAnswer self .number ⌝ }
     {
         match self {
-            DeltasRead::End(_) => 0,
+            DeltasRead::End(_) => DONE,
             DeltasRead::Refused(number) => number,
         }
     }
@@ -67,15 +66,15 @@ impl ListRead {
         ensures { λ r. ⌜ r ≡ listAnswer self .number ⌝ }
     {
         match self {
-            ListRead::Found(_, _) => 0,
+            ListRead::Found(_, _) => DONE,
             ListRead::Refused(number) => number,
         }
     }
 }
 
-// The stream whose delta stands at the place `at`, counted from `last`.
+// The stream whose delta stands at the place `at`, counted from `last`: the horizon, which may be one more than any stream, or the stream before.
 pub fn read_delta(s: &[u8], at: usize, last: u32) -> DeltaRead
-    requires { ⌜ last ≤ 4096 ⌝ }
+    requires { ⌜ last ≤ horizonLimit ⌝ }
     ensures { λ r. ⌜ r ≡ readDelta (now (s .entry)) at last ⌝ }
 {
     let r = WireInt::read(s, at, WireInt::PREFIX8);
@@ -86,20 +85,16 @@ pub fn read_delta(s: &[u8], at: usize, last: u32) -> DeltaRead
     if delta == 0 {
         return DeltaRead::Refused(BAD_STREAM_LIST);
     }
-    if LAST_STREAM < last + delta {
+    let stream = last + delta;
+    if (StreamNumber::LAST as u32) < stream {
         return DeltaRead::Refused(BAD_STREAM_LIST);
     }
-    DeltaRead::Stream(
-        StreamNumber {
-            value: (last + delta) as u16,
-        },
-        next,
-    )
+    DeltaRead::Stream(StreamNumber::new(stream as u16), next)
 }
 
 // `count` deltas from the place `at` on; the first counts from the horizon.
 fn read_deltas(s: &[u8], at: usize, count: u32, horizon: u32) -> DeltasRead
-    requires { ⌜ horizon ≤ 4096 ⌝ }
+    requires { ⌜ horizon ≤ horizonLimit ⌝ }
     ensures { λ r. ⌜ r ≡ readDeltas count (now (s .entry)) at horizon ⌝ }
 {
     let mut next = at;
@@ -171,7 +166,7 @@ fn write_deltas(horizon: u32, streams: &[u16], out: &mut [u8], at: usize) -> usi
 
 // Writes a stream list, and answers the place after it.
 pub fn write_list(horizon: u32, streams: &[u16], out: &mut [u8], at: usize) -> usize
-    requires { ⌜ (horizon ≤ 4096) × (length (now streams) ≤ 16) × Fits horizon (now streams) ⌝ }
+    requires { ⌜ (horizon ≤ horizonLimit) × (length (now streams) ≤ countLimit) × Fits horizon (now streams) ⌝ }
     requires { ⌜ at + length (listWire horizon (now streams)) ≤ length (now out) ⌝ }
     ensures { λ r. ⌜ r ≡ at + length (listWire horizon (now (streams .entry))) ⌝ }
     ensures { λ _. ⌜ now (out .exit) ≡ overlay (now (out .entry)) at (listWire horizon (now (streams .entry))) ⌝ }

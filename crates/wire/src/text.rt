@@ -3,11 +3,13 @@ ghost use mathlib.Core.Path.{_≡_};
 ghost use Prim.Native.Nat.{ℕ, _+_, _≤_};
 ghost use lib.ListN.{length};
 ghost use Rattle.memory.specs.Bytes.{overlay};
-ghost use Rattle.wire.specs.Text.{InString, stringAnswer, stringLength, stringBytes, readString, stringWire};
+ghost use Rattle.wire.specs.Text.{InString, stringAnswer, stringLength, stringBytes, readString, stringWire, valueLimit};
 ghost use Rattle.wire.specs.Short.{shortStringAt};
+use integers::answer::DONE;
 use integers::answer::PACKED;
 use integers::answer::TOO_LONG;
 use integers::answer::TRUNCATED;
+use integers::byte::wide;
 use integers::integer::IntRead;
 use integers::integer::WireInt;
 use memory::copy::copy;
@@ -16,6 +18,9 @@ use memory::copy::copy;
 pub const NAME_LIMIT: usize = 255;
 
 pub const VALUE_LIMIT: usize = 2_047;
+
+// The H bit, in the first byte of a string.
+const H_BIT: u8 = 128;
 
 // Where a string stands: its first byte after the length, and how many bytes it takes there.
 // Its length and its bytes are reached through the two methods alone.
@@ -41,7 +46,7 @@ impl StringRead {
         ensures { λ r. ⌜ r ≡ stringAnswer self .number ⌝ }
     {
         match self {
-            StringRead::Found(_, _) => 0,
+            StringRead::Found(_, _) => DONE,
             StringRead::Refused(number) => number,
         }
     }
@@ -75,7 +80,7 @@ pub fn read_string(s: &[u8], at: usize, limit: usize) -> StringRead
     if s.len() <= at {
         return StringRead::Refused(TRUNCATED);
     }
-    if 128 <= s[at] {
+    if H_BIT <= s[at] {
         return StringRead::Refused(PACKED);
     }
     let r = WireInt::read(s, at, WireInt::PREFIX7);
@@ -92,13 +97,6 @@ pub fn read_string(s: &[u8], at: usize, limit: usize) -> StringRead
         return StringRead::Found(StringPlace { start, size }, next);
     }
     StringRead::Refused(TRUNCATED)
-}
-
-// A byte as a number.
-fn wide(x: u8) -> u32
-    ensures { λ r. ⌜ r ≡ x ⌝ }
-{
-    x as u32
 }
 
 // The string at the place `at`, if its length takes one byte: then H is not set, and it is within every limit. Most are, so whoever reads many
@@ -124,7 +122,7 @@ pub fn short_string(s: &[u8], at: usize) -> ShortString
 
 // Writes the string `src` at the place `at`, and answers the place after it.
 pub fn write_string(src: &[u8], out: &mut [u8], at: usize) -> usize
-    requires { ⌜ length (now src) ≤ 2047 ⌝ }
+    requires { ⌜ length (now src) ≤ valueLimit ⌝ }
     requires { ⌜ at + length (stringWire (now src)) ≤ length (now out) ⌝ }
     ensures { λ r. ⌜ r ≡ at + length (stringWire (now (src .entry))) ⌝ }
     ensures { λ _. ⌜ now (out .exit) ≡ overlay (now (out .entry)) at (stringWire (now (src .entry))) ⌝ }

@@ -1,6 +1,8 @@
 -- `static_table::print_entries` meets its contract. The loop's invariant: the index is one of an entry, or one past the last.
 use Prim.Native.Nat.{_-_, _≤_}
+use mathlib.Core.Path.{ap}
 use native.Mathlib.Omega.{arith}
+use Rattle.integers.specs.declared.number.TableIndex.{TableIndex}
 use Rattle.static_table.proofs.print_entries.Statement.{statement}
 use Rattle.static_table.proofs.print_entries.Tie as tie
 
@@ -13,8 +15,11 @@ abbrev μ-loop : tie.MeasureT-loop
 loop-holds : tie.Need-loop-holds Inv-loop μ-loop
 loop-holds c = omega arith
 
+new-requires : tie.Need-new-requires Inv-loop μ-loop
+new-requires c κs = omega arith
+
 print-entry-requires : tie.Need-print-entry-requires Inv-loop μ-loop
-print-entry-requires c κs = (c .before .before .before .pre, omega arith)
+print-entry-requires c κs = (c .before .before .before .before .pre, omega (arith, ap (λ (r : TableIndex). r .value) (c .new .ensures)))
 
 add-i : tie.Need-add-i Inv-loop μ-loop
 add-i c = omega arith
@@ -31,4 +36,4 @@ returns c = tt
 pub print-entries-spec : {M : Type 1} → statement M
 print-entries-spec =
     tie.close
-    (tie.spec Inv-loop μ-loop loop-holds print-entry-requires add-i loop-less loop-again returns)
+    (tie.spec Inv-loop μ-loop loop-holds new-requires print-entry-requires add-i loop-less loop-again returns)

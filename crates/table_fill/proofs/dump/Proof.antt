@@ -34,17 +34,17 @@ slice-aggregate-line-of-2 c =
 line-of-requires : tie.Need-line-of-requires
 line-of-requires c κs = search needs
 
-u16-at-requires : tie.Need-u16-at-requires
-u16-at-requires c κs = let w = known (c .before .before .before) in omega (arith, w .long)
+count-of-requires : tie.Need-count-of-requires
+count-of-requires c κs = let w = known (c .before .before .before) in omega (arith, w .long)
 
 cast-count : tie.Need-cast-count
 cast-count c = search needs
 
 rows-requires : tie.Need-rows-requires
-rows-requires c κs = let w = known (c .before .before .before .before) in (omega (arith, w .count, c .u16-at .ensures), w .long)
+rows-requires c κs = let w = known (c .before .before .before .before) in (omega (arith, w .count, c .count-of .ensures), w .long)
 
-u16-at-requires-2 : tie.Need-u16-at-requires-2
-u16-at-requires-2 c κs = let w = known (c .before .before .before .before .before) in omega (arith, w .long)
+held-of-requires : tie.Need-held-of-requires
+held-of-requires c κs = let w = known (c .before .before .before .before .before) in omega (arith, w .long)
 
 cast-end : tie.Need-cast-end
 cast-end c = search needs
@@ -56,7 +56,7 @@ mul-end : tie.Need-mul-end
 mul-end c = search needs
 
 sub-end : tie.Need-sub-end
-sub-end c = let w = known (c .before .before .before .before .before .before) in omega (arith, w .heads, c .u16-at2 .ensures, c .before .before .u16-at .ensures)
+sub-end c = let w = known (c .before .before .before .before .before .before) in omega (arith, w .heads, c .held-of .ensures, c .before .before .count-of .ensures)
 
 slice-aggregate-line-of-3 : tie.Need-slice-aggregate-line-of-3
 slice-aggregate-line-of-3 c = search needs
@@ -64,13 +64,13 @@ slice-aggregate-line-of-3 c = search needs
 sub-line-of : tie.Need-sub-line-of
 sub-line-of c =
     let w = known (c .before .before .before .before .before .before .before) in
-    omega (arith, w .heads, c .before .u16-at2 .ensures, c .before .before .before .u16-at .ensures)
+    omega (arith, w .heads, c .before .held-of .ensures, c .before .before .before .count-of .ensures)
 
 part-line-of-start : tie.Need-part-line-of-start
 part-line-of-start c = let w = known (c .before .before .before .before .before .before .before) in omega (arith, w .long)
 
 part-line-of-end : tie.Need-part-line-of-end
-part-line-of-end c = let w = known (c .before .before .before .before .before .before .before) in omega (arith, w .long, w .held, c .before .u16-at2 .ensures)
+part-line-of-end c = let w = known (c .before .before .before .before .before .before .before) in omega (arith, w .long, w .held, c .before .held-of .ensures)
 
 line-of-requires-2 : tie.Need-line-of-requires-2
 line-of-requires-2 c κs = search needs
@@ -89,10 +89,10 @@ dump-spec =
     slice-aggregate-line-of
     slice-aggregate-line-of-2
     line-of-requires
-    u16-at-requires
+    count-of-requires
     cast-count
     rows-requires
-    u16-at-requires-2
+    held-of-requires
     cast-end
     add-end
     mul-end

@@ -1,8 +1,9 @@
 -- `empty` meets its contract. The loop's invariant: the index is one of the 128 from 62 on.
-use mathlib.Core.Path.{_≡_}
+use mathlib.Core.Path.{_≡_, ap}
 use Prim.Native.Nat.{_-_, _≤_, _<_}
 use native.Mathlib.Omega.{arith}
 use lib.ListN.{length}
+use Rattle.integers.specs.declared.number.TableIndex.{TableIndex}
 use Rattle.table_fill.proofs.empty.Statement.{statement}
 use Rattle.table_fill.proofs.empty.Tie as tie
 
@@ -15,11 +16,14 @@ abbrev μ-loop : tie.MeasureT-loop
 loop-holds : tie.Need-loop-holds Inv-loop μ-loop
 loop-holds c = omega arith
 
-add-take : tie.Need-add-take Inv-loop μ-loop
-add-take c = omega arith
+add-new : tie.Need-add-new Inv-loop μ-loop
+add-new c = omega arith
+
+new-requires : tie.Need-new-requires Inv-loop μ-loop
+new-requires c κs = omega arith
 
 take-requires : tie.Need-take-requires Inv-loop μ-loop
-take-requires c κs = omega arith
+take-requires c κs = omega (arith, ap (λ (x : TableIndex). x .value) (c .new .ensures))
 
 add-k : tie.Need-add-k Inv-loop μ-loop
 add-k c = omega arith
@@ -46,7 +50,8 @@ empty-spec =
     Inv-loop
     μ-loop
     loop-holds
-    add-take
+    add-new
+    new-requires
     take-requires
     add-k
     add-i

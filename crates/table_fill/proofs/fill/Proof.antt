@@ -1,10 +1,11 @@
 -- `fill` meets its contract. The loop's invariant: the index is one of the 128 from 62 on. Name and value are at most 16 bytes.
-use mathlib.Core.Path.{_≡_, sym}
+use mathlib.Core.Path.{_≡_, sym, ap}
 use Prim.Native.Nat.{ℕ, _+_, _*_, _-_, _%_, _≤_, _<_}
 use native.Mathlib.Omega.{arith}
 use native.Mathlib.Nat.{mul-le-mul-right}
 use lib.ListN.{length}
 use lib.Seq.{length-take-le}
+use Rattle.integers.specs.declared.number.TableIndex.{TableIndex}
 use Rattle.table_fill.proofs.fill.Statement.{statement}
 use Rattle.table_fill.proofs.fill.Tie as tie
 
@@ -38,8 +39,11 @@ mul-value c = omega (arith, seven (c .before .before .before .before .args .text
 cast-value : tie.Need-cast-value Inv-loop μ-loop
 cast-value c = omega arith
 
-add-put : tie.Need-add-put Inv-loop μ-loop
-add-put c = omega arith
+add-new : tie.Need-add-new Inv-loop μ-loop
+add-new c = omega arith
+
+new-requires : tie.Need-new-requires Inv-loop μ-loop
+new-requires c κs = omega arith
 
 slice-aggregate-put : tie.Need-slice-aggregate-put Inv-loop μ-loop
 slice-aggregate-put c = sym (length-take-le _ _ (omega arith))
@@ -48,7 +52,11 @@ slice-aggregate-put-2 : tie.Need-slice-aggregate-put-2 Inv-loop μ-loop
 slice-aggregate-put-2 c = sym (length-take-le _ _ (omega arith))
 
 put-requires : tie.Need-put-requires Inv-loop μ-loop
-put-requires c κs = (omega arith, omega (arith, slice-aggregate-put (c .before)), omega (arith, slice-aggregate-put-2 c))
+put-requires c κs = (
+  omega (arith, ap (λ (x : TableIndex). x .value) (c .before .before .new .ensures)),
+  omega (arith, slice-aggregate-put (c .before)),
+  omega (arith, slice-aggregate-put-2 c),
+)
 
 add-k : tie.Need-add-k Inv-loop μ-loop
 add-k c = omega arith
@@ -81,7 +89,8 @@ fill-spec =
     add-value
     mul-value
     cast-value
-    add-put
+    add-new
+    new-requires
     slice-aggregate-put
     slice-aggregate-put-2
     put-requires

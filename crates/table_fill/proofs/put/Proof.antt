@@ -1,11 +1,14 @@
--- `put` meets its contract. After the test the claim of `changes` gives what `find` relies on; after the test of the limit, what `insert` does.
+-- `put` meets its contract. After the test the claim of `table_laws` gives what `find` relies on; after the test of the limit, what `insert` does.
 use mathlib.Core.Path.{_≡_, sym, _∙_}
+use Prim.Native.Nat.{_+_}
 use mathlib.Core.Bool.{true}
 use native.Mathlib.Omega.{arith}
-use borrow.Author.Tests.{not-false}
-use borrow.Author.Needs.{needs}
+use lib.ListN.{length}
+use borrow.Author.Tests.{leb-true, not-false}
+use Rattle.state.specs.Layout.{limitOf, heldOf}
 use Rattle.state.specs.Forms.{formsDecoder}
 use Rattle.table_fill.proofs.Standing.{Standing, standing, within}
+use borrow.Author.Needs.{needs}
 use Rattle.table_fill.proofs.put.Statement.{statement}
 use Rattle.table_fill.proofs.put.Tie as tie
 
@@ -51,20 +54,14 @@ same-length-2 c = search needs
 returns-2 : tie.Need-returns-2
 returns-2 c = search needs
 
-u16-at-requires : tie.Need-u16-at-requires
-u16-at-requires c κs = let o = known (c .before .before .before .before .before .before) .ordered in omega (arith, o .long)
+add-fits : tie.Need-add-fits
+add-fits c = search needs
 
-cast-if2 : tie.Need-cast-if2
-cast-if2 c = search needs
+add-fits-2 : tie.Need-add-fits-2
+add-fits-2 c = search needs
 
-add-if2 : tie.Need-add-if2
-add-if2 c = search needs
-
-add-if2-2 : tie.Need-add-if2-2
-add-if2-2 c = search needs
-
-add-if2-3 : tie.Need-add-if2-3
-add-if2-3 c = search needs
+fits-requires : tie.Need-fits-requires
+fits-requires c κs = let o = known (c .before .before .before .before .before .before) .ordered in omega (arith, o .long)
 
 slice-aggregate-line-2 : tie.Need-slice-aggregate-line-2
 slice-aggregate-line-2 c = search needs
@@ -81,9 +78,13 @@ returns-3 c = search needs
 insert-requires : tie.Need-insert-requires
 insert-requires c κs =
     let u = c .before .before in
+    let k = u .before .before .before .before .before .before .before in
+    let a = k .before .before .before .before .before .before .args in
     let e = sym (u .before .before .before .before .before .find .ensures) ∙ u .before .before .before .f .given .1 in
-    let w = within _ (forms (u .before .before .before .before .before .before .before)) in
-    known (u .before .before .before .before .before .before .before) .opening _ _ _ _ e (omega (arith, u .u16-at .ensures)) (omega (arith, w .heads, u .u16-at .ensures))
+    let w = within _ (forms k) in
+    let room = leb-true (heldOf (a .m .now) + (length (a .name .now) + length (a .value .now) + 32)) (limitOf (a .m .now))
+    (sym (u .fits2 .ensures) ∙ not-false _ (c .before .if2 .left)) in
+    known k .opening _ _ _ _ e (omega (arith, w .limit, room)) (omega (arith, w .limit, w .heads, room))
 
 same-length-4 : tie.Need-same-length-4
 same-length-4 c = search needs
@@ -107,11 +108,9 @@ put-spec =
     line-requires
     same-length-2
     returns-2
-    u16-at-requires
-    cast-if2
-    add-if2
-    add-if2-2
-    add-if2-3
+    add-fits
+    add-fits-2
+    fits-requires
     slice-aggregate-line-2
     line-requires-2
     same-length-3

@@ -1,4 +1,4 @@
--- `take` meets its contract. After the test the claim of `changes` gives what `find` relies on, and what `remove` does.
+-- `take` meets its contract. After the test the claim of `table_laws` gives what `find` relies on, and what `remove` does.
 use mathlib.Core.Path.{sym, _∙_}
 use native.Mathlib.Omega.{arith}
 use borrow.Author.Tests.{not-false}

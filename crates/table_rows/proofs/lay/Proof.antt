@@ -7,7 +7,7 @@ use Rattle.table_rows.proofs.Laying.{lay-turn, lay-end}
 use Rattle.table_rows.proofs.lay.Statement.{statement}
 use Rattle.table_rows.proofs.lay.Tie as tie
 
--- `table::rows::lay` meets its contract. The loop's invariant: the rows from `i` on are still to be laid, and the offset has grown by texts below 131072.
+-- `table_rows::lay` meets its contract. The loop's invariant: the rows from `i` on are still to be laid, and the offset has grown by texts below 131072.
 
 abbrev Inv-loop : tie.InvT-loop
 Inv-loop m₀ from count start offset₀ i₀ m offset i =
@@ -22,17 +22,11 @@ loop-holds c = (refl, omega arith, omega arith, refl)
 text-length-requires : tie.Need-text-length-requires Inv-loop μ-loop
 text-length-requires c κs = omega arith
 
-row-place-requires : tie.Need-row-place-requires Inv-loop μ-loop
-row-place-requires c κs = omega arith
+cast-put-offset : tie.Need-cast-put-offset Inv-loop μ-loop
+cast-put-offset c = omega arith
 
-add-put-u16 : tie.Need-add-put-u16 Inv-loop μ-loop
-add-put-u16 c = omega arith
-
-cast-put-u16 : tie.Need-cast-put-u16 Inv-loop μ-loop
-cast-put-u16 c = omega arith
-
-put-u16-requires : tie.Need-put-u16-requires Inv-loop μ-loop
-put-u16-requires c κs = omega arith
+put-offset-requires : tie.Need-put-offset-requires Inv-loop μ-loop
+put-offset-requires c κs = omega arith
 
 add-offset : tie.Need-add-offset Inv-loop μ-loop
 add-offset c = omega arith
@@ -45,12 +39,13 @@ loop-less c = omega arith
 
 loop-again : tie.Need-loop-again Inv-loop μ-loop
 loop-again c =
-    let l = c .before .before .before .before .before .before .before .before .loop in (
+    let text = c .before .before .before .before in
+    let l = text .before .before .before .loop in (
       omega arith,
       omega arith,
       omega arith,
-      l .inv .3 ∙ lay-turn (l .m) (l .i) _ (l .offset) (c .before .before .before .before .before .before .before .loop-test .taken)
-          ∙ rw (c .before .before .put-u16 .ensures, c .before .before .before .row-place .ensures, c .before .before .before .before .before .text-length .ensures .0),
+      l .inv .3 ∙ lay-turn (l .m) (l .i) _ (l .offset) (text .before .before .loop-test .taken)
+          ∙ rw (c .before .before .put-offset .ensures, text .text-length .ensures .0),
     )
 
 same-length : tie.Need-same-length Inv-loop μ-loop
@@ -67,10 +62,8 @@ lay-spec =
     μ-loop
     loop-holds
     text-length-requires
-    row-place-requires
-    add-put-u16
-    cast-put-u16
-    put-u16-requires
+    cast-put-offset
+    put-offset-requires
     add-offset
     add-i
     loop-less

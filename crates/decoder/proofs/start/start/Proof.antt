@@ -8,6 +8,9 @@ use Rattle.decoder.proofs.start.start.Tie as tie
 
 -- `decoder::start::start` meets its contract: each way through it is one of the laws of start.
 
+cast-if1 : tie.Need-cast-if1
+cast-if1 c = search needs
+
 refused-requires : tie.Need-refused-requires
 refused-requires c κs = search needs
 
@@ -39,6 +42,7 @@ pub start-spec : {M : Type 1} → statement M
 start-spec =
     tie.close
     (tie.spec
+    cast-if1
     refused-requires
     returns
     refused-requires-2

@@ -1,13 +1,11 @@
--- `block` meets its contract: the refusals in their order, and then what the block gives.
 use denote.Ref.{now}
 use native.Mathlib.Omega.{arith}
 use mathlib.Core.Path.{_≡_, refl, sym, _∙_}
 use mathlib.Core.Bool.{true}
 use borrow.Author.Tests.{not-true, not-false}
-use Rattle.model.specs.Parts.{partOf}
 use Rattle.state.specs.DecoderState.{decoderOf}
 use Rattle.state.specs.Forms.{formsDecoder}
-use Rattle.parts.specs.Turn.{partTurn}
+use Rattle.parts.proofs.Given.{Given, given, none-given}
 use Rattle.decoder_survey.specs.Measure.{Stands}
 use Rattle.decoder_survey.proofs.Entries.{changes}
 use Rattle.decoder_block.proofs.Calls.{leaves, no-state, out-of-turn}
@@ -15,15 +13,17 @@ use borrow.Author.Needs.{needs}
 use Rattle.decoder_block.proofs.block.block.Statement.{statement}
 use Rattle.decoder_block.proofs.block.block.Tie as tie
 
+-- `block` meets its contract: the refusals in their order, and then what the block gives.
+
 forms : (c : tie.Else1) → formsDecoder (now (c .before .before .before .before .before .before .args .m)) ≡ true
 forms c = sym (c .before .forms-decoder .ensures) ∙ not-false _ (c .if1 .left)
 
 stands : (c : tie.Else1) → Stands (now (c .before .before .before .before .before .before .args .m))
 stands c = record { small = λ k. omega (arith, c .before .before .before .before .before .slice-known .given k); forms = forms c; state = refl }
 
-turn : (c : tie.Else2) → let a = c .before .before .before .before .before .before .before .before .before .args in partTurn (decoderOf (now (a .m)) .finished) (a .stream) (partOf (a .part)) ≡ true
+turn : (c : tie.After-turn) → let a = c .before .before .before .before .before .before .before .before .before .before .args in Given (decoderOf (now (a .m)) .finished) (a .stream) (a .part) (c .turn .given .0 .0) (c .turn .given .0 .1 .0)
 unfolding decoderOf
-turn c = sym (c .before .in-turn .ensures) ∙ not-false _ (c .if2 .left)
+turn c = given _ _ _ _ _ (sym (c .before .before .turn-of .ensures) ∙ c .turn .given .1)
 
 forms-decoder-requires : tie.Need-forms-decoder-requires
 forms-decoder-requires c κs = search needs
@@ -39,8 +39,14 @@ returns c =
     let e = sym (c .before .before .forms-decoder .ensures) ∙ not-true _ (c .before .if1 .taken) in
     leaves (no-state _ _ _ _ _ e) (c .refused .ensures) refl refl
 
-in-turn-requires : tie.Need-in-turn-requires
-in-turn-requires c κs = changes _ (stands (c .before)) .ordered .long
+turn-of-requires : tie.Need-turn-of-requires
+turn-of-requires c κs = changes _ (stands (c .before)) .ordered .long
+
+enum-known-turn : tie.Need-enum-known-turn
+enum-known-turn c = search needs
+
+enum-told : tie.Need-enum-told
+enum-told c = search needs
 
 refused-requires-2 : tie.Need-refused-requires-2
 refused-requires-2 c κs = search needs
@@ -51,11 +57,11 @@ same-length-2 c = search needs
 returns-2 : tie.Need-returns-2
 unfolding decoderOf
 returns-2 c =
-    let e = sym (c .before .before .in-turn .ensures) ∙ not-true _ (c .before .if2 .taken) in
-    leaves (out-of-turn _ _ _ _ _ (forms (c .before .before .before .before)) e) (c .refused2 .ensures) refl refl
+    let e = none-given _ _ _ (sym (c .before .before .before .turn-of .ensures) ∙ c .before .enum-told .given .1) in
+    leaves (out-of-turn _ _ _ _ _ (forms (c .before .before .before .before .before)) e) (c .refused2 .ensures) refl refl
 
 give-requires : tie.Need-give-requires
-give-requires c κs = (stands (c .before .before .before .before .before), turn (c .before .before))
+give-requires c κs = (stands (c .before .before .before .before .before .before .before), turn (c .before .before .before) .turn)
 
 same-length-3 : tie.Need-same-length-3
 same-length-3 c = search needs
@@ -64,7 +70,9 @@ same-length-4 : tie.Need-same-length-4
 same-length-4 c = search needs
 
 returns-3 : tie.Need-returns-3
-returns-3 c = search needs
+returns-3 c =
+    let t = turn (c .before .before .before .before .before .before .before .before) in
+    rw (t .stream, t .number) (c .before .before .before .before .give .ensures)
 
 pub block-spec : {M : Type 1} → statement M
 block-spec =
@@ -74,7 +82,9 @@ block-spec =
     refused-requires
     same-length
     returns
-    in-turn-requires
+    turn-of-requires
+    enum-known-turn
+    enum-told
     refused-requires-2
     same-length-2
     returns-2

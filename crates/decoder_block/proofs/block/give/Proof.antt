@@ -1,4 +1,3 @@
--- `give` meets its contract: by what was surveyed it is refused, waits, finds no room, or gives the fields and finishes the part.
 use Prim.Native.Nat.{ℕ}
 use denote.Ref.{now}
 use native.Mathlib.Omega.{arith}
@@ -7,19 +6,19 @@ use lib.ListN.{length}
 use Rattle.integers.specs.Answers.{done}
 use Rattle.marks.specs.Marks.{cleared}
 use Rattle.blocks.specs.Meaning.{BlockMeaning}
-use Rattle.state.specs.DecoderState.{decoderOf}
+use Rattle.parts.specs.Turn.{partIn}
+use Rattle.parts.proofs.Given.{in-turn}
 use Rattle.decoder_survey.specs.Measure.{IsList, listBytes}
 use Rattle.decoder_survey.specs.Passes.{ToldSurvey}
 use Rattle.decoder_survey.specs.declared.measure.Survey.the-variants.{Bytes, Waits, Refused}
 use Rattle.decoder_survey.proofs.Entries.{changes}
 use Rattle.decoder_survey.proofs.Surveying.{Gives, survey-is}
-use Rattle.decoder_block.proofs.Calls.{InTurn, in-turn, leaves, not-read, waits, no-room, gives}
+use Rattle.decoder_block.proofs.Calls.{marks-within, leaves, not-read, waits, no-room, gives}
 use borrow.Author.Needs.{needs}
 use Rattle.decoder_block.proofs.block.give.Statement.{statement}
 use Rattle.decoder_block.proofs.block.give.Tie as tie
 
-turn : (c : tie.Start) → let a = c .args in InTurn (decoderOf (now (a .m)) .finished) (a .stream) (a .part)
-turn c = in-turn _ _ _ (c .pre .1)
+-- `give` meets its contract: by what was surveyed it is refused, waits, finds no room, or gives the fields and finishes the part.
 
 fields : (c : tie.After-known-told3) → Gives (now (c .before .before .before .before .before .before .before .before .args .m)) (now (c .before .before .before .before .before .before .before .before .args .s)) (c .before .n .given .0 .0)
 fields c = survey-is _ _ (Bytes (c .before .n .given .0 .0)) (sym (c .before .n .given .1) ∙ c .before .before .before .survey-block .ensures .0)
@@ -48,9 +47,9 @@ same-length c = search needs
 returns : tie.Need-returns
 returns c =
     let known = c .before .before in
-    let start = known .before .before .before .before .before .before .before .before in
+    let p = known .before .before .before .before .before .before .before .before .pre in
     let f = fields known in
-    leaves (no-room _ _ _ _ _ (start .pre .0) (turn start) (f .reads) (f .fields) (f .means) (omega (arith, f .long, c .before .if1 .taken)))
+    leaves (no-room _ (p .0) _ _ (p .1) _ _ (f .reads) (f .fields) (f .means) (omega (arith, f .long, c .before .if1 .taken)))
     (c .refused2 .ensures) refl refl
 
 write-fields-requires : tie.Need-write-fields-requires
@@ -61,16 +60,14 @@ write-fields-requires c κs =
     (known .before .before .before .before .before .before .before .before .pre .0, (f .reads, (subst IsList (sym (f .means)) tt, omega (arith, f .long, n, c .before .before .if1 .left))))
 
 marks-place-requires : tie.Need-marks-place-requires
-marks-place-requires c κs = let t = turn (c .before .before .before .before .before .before .before .before .before .before .before .before .before .before .before) in omega arith
-
-cast-t22 : tie.Need-cast-t22
-cast-t22 c = let t = turn (c .before .before .before .before .before .before .before .before .before .before .before .before .before .before .before .before) in omega arith
+marks-place-requires c κs = search needs
 
 clear-requires : tie.Need-clear-requires
 clear-requires c κs =
     let start = c .before .before .before .before .before .before .before .before .before .before .before .before .before .before .before .before in
-    let t = turn start in
-    omega (arith, c .marks-place .ensures, t .low, t .few, changes _ (start .pre .0) .ordered .long)
+    let p = start .pre in
+    rw (c .marks-place .ensures)
+    (in-turn _ _ _ (p .1) .0, marks-within (now (start .args .m)) (partIn (start .args .part)) (changes _ (p .0) .ordered .long))
 
 cast-done : tie.Need-cast-done
 cast-done c =
@@ -86,21 +83,19 @@ same-length-2 c = search needs
 
 returns-2 : tie.Need-returns-2
 returns-2 c =
-    let start = c .before .before .before .before .before .before .before .before .before in
-    let p = start .pre in
+    let p = c .before .before .before .before .before .before .before .before .before .pre in
     let number = c .before .before .number .given .0 .0 in
     let e = survey-is _ _ (Refused number) (sym (c .before .before .number .given .1) ∙ c .before .before .before .before .survey-block .ensures .0) in
-    leaves (not-read _ _ _ _ _ (p .0 .forms) (p .1) _ e) (c .refused .ensures) refl refl
+    leaves (not-read _ (p .0) _ _ (p .1) _ _ _ e) (c .refused .ensures) refl refl
 
 same-length-3 : tie.Need-same-length-3
 same-length-3 c = search needs
 
 returns-3 : tie.Need-returns-3
 returns-3 c =
-    let start = c .before .before .before .before .before .before .before .before in
-    let p = start .pre in
+    let p = c .before .before .before .before .before .before .before .before .pre in
     let e = survey-is _ _ (Waits (c .before .index .given .0 .0)) (sym (c .before .index .given .1) ∙ c .before .before .before .survey-block .ensures .0) in
-    leaves (waits _ _ _ _ _ (p .0) (turn start) (e .0) _ (e .1)) refl refl refl
+    leaves (waits _ (p .0) _ _ (p .1) _ _ (e .0) _ (e .1)) refl refl refl
 
 same-length-4 : tie.Need-same-length-4
 same-length-4 c = search needs
@@ -114,9 +109,9 @@ returns-4 c =
     let start = known .before .before .before .before .before .before .before .before in
     let a = start .args in
     let f = fields known in
-    leaves (gives _ _ _ _ _ (start .pre .0) (turn start) (f .reads) (f .fields) (f .means) (omega (arith, f .long, c .before .before .before .before .before .before .before .before .before .before .before .if1 .left)))
+    leaves (gives _ (start .pre .0) _ _ (start .pre .1) _ _ (f .reads) (f .fields) (f .means) (omega (arith, f .long, c .before .before .before .before .before .before .before .before .before .before .before .if1 .left)))
     (c .done .ensures ∙ ap (λ (n : ℕ). done n 0) (sym (f .long)))
-    (c .before .before .before .clear .ensures ∙ ap (λ (k : ℕ). cleared (now (a .m)) k (a .stream)) (c .before .before .before .before .marks-place .ensures))
+    (c .before .before .before .clear .ensures ∙ ap (λ (k : ℕ). cleared (now (a .m)) k (a .stream .value)) (c .before .before .before .before .marks-place .ensures))
     (rw (f .means) at (c .before .before .before .before .before .before .before .before .write-fields .ensures))
 
 pub give-spec : {M : Type 1} → statement M
@@ -133,7 +128,6 @@ give-spec =
     returns
     write-fields-requires
     marks-place-requires
-    cast-t22
     clear-requires
     cast-done
     done-requires

@@ -1,4 +1,3 @@
--- `find_ready` meets its contract. The loop's invariant: the answer is that of the rows that are left.
 use Prim.Native.Nat.{_-_, _≤_}
 use denote.Ref.{now}
 use native.Mathlib.Omega.{arith}
@@ -13,6 +12,8 @@ use Rattle.decoder_collect.proofs.ReadyRows.{changes}
 use Rattle.decoder_collect.proofs.collect.find_ready.Statement.{statement}
 use Rattle.decoder_collect.proofs.collect.find_ready.Tie as tie
 
+-- `find_ready` meets its contract. The loop's invariant: the answer is that of the rows that are left.
+
 abbrev Inv-loop : tie.InvT-loop
 Inv-loop m count i₀ i = (i ≤ countOf m) × (lowestRow (readyAt m) (countOf m) 0 ≡ lowestRow (readyAt m) (countOf m - i) i)
 
@@ -22,8 +23,8 @@ abbrev μ-loop : tie.MeasureT-loop
 stands : (c : tie.After-shared-slice-known Inv-loop μ-loop) → let m = now (c .before .args .m) in DecoderStands m (decoderOf m)
 stands c = record { small = λ k. omega (arith, c .shared-slice-known .given k); forms = c .before .pre; state = refl }
 
-u16-at-requires : tie.Need-u16-at-requires Inv-loop μ-loop
-u16-at-requires c κs = omega (arith, changes _ (stands c) .ordered .long)
+count-of-requires : tie.Need-count-of-requires Inv-loop μ-loop
+count-of-requires c κs = omega (arith, changes _ (stands c) .ordered .long)
 
 cast-count : tie.Need-cast-count Inv-loop μ-loop
 cast-count c = omega arith
@@ -55,7 +56,7 @@ find-ready-spec =
     (tie.spec
     Inv-loop
     μ-loop
-    u16-at-requires
+    count-of-requires
     cast-count
     loop-holds
     is-ready-requires

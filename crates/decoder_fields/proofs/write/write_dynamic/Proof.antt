@@ -19,7 +19,7 @@ use Rattle.decoder_fields.proofs.write.write_dynamic.Statement.{stateme
 use Rattle.decoder_fields.proofs.write.write_dynamic.Tie as tie
 
 row : (c : tie.After-known-told) → let a = c .before .before .before .before .before .before .args in findFrom (now (a .m)) (a .index .value) (countOf (now (a .m))) 0 ≡ At (c .before .f .given .0 .0)
-row c = sym (c .before .before .before .row-of .ensures) ∙ c .before .f .given .1
+row c = sym (c .before .before .before .find .ensures) ∙ c .before .f .given .1
 
 here : (c : tie.After-known-told) → let a = c .before .before .before .before .before .before .args in Located (now (a .m)) (a .index .value) (Dynamic (c .before .f .given .0 .0))
 here c = let p = c .before .before .before .before .before .before .pre .0 in dynamic _ (p .0) _ (static-above _ (p .1)) _ (row c)
@@ -28,8 +28,8 @@ means : (c : tie.After-known-told) → let a = c .before .before .before .before
     fieldMeant (now (a .m)) (indexed (a .index .value)) ≡ field (rowField (now (a .m)) (c .before .f .given .0 .0))
 means c = found _ _ _ (names-entry _ _) (Dynamic (c .before .f .given .0 .0)) (here c) tt
 
-row-of-requires : tie.Need-row-of-requires
-row-of-requires c κs = let p = c .before .before .pre .0 in (omega (arith, p .1), changes _ (p .0) .ordered)
+find-requires : tie.Need-find-requires
+find-requires c κs = let p = c .before .before .pre .0 in (omega (arith, p .1), changes _ (p .0) .ordered)
 
 enum-known-f : tie.Need-enum-known-f
 enum-known-f c = search needs
@@ -41,7 +41,7 @@ returns : tie.Need-returns
 returns c =
     let start = c .before .before .before .before .before in
     let p = start .pre in
-    let L = dynamic _ (p .0 .0) _ (static-above _ (p .0 .1)) _ (sym (c .before .before .row-of .ensures) ∙ c .enum-told .given .1) in
+    let L = dynamic _ (p .0 .0) _ (static-above _ (p .0 .1)) _ (sym (c .before .before .find .ensures) ∙ c .enum-told .given .1) in
     absurd (standing _ _ _ (names-entry _ _) Nowhere L (p .1 .0))
 
 write-row-requires : tie.Need-write-row-requires
@@ -63,7 +63,7 @@ pub write-dynamic-spec : {M : Type 1} → statement M
 write-dynamic-spec =
     tie.close
     (tie.spec
-    row-of-requires
+    find-requires
     enum-known-f
     enum-told
     returns

@@ -9,17 +9,18 @@ use Rattle.fields.specs.Form.{Field}
 use Rattle.fields.proofs.Sizes.{fieldForm-split}
 use Rattle.blocks.specs.Representation.{indexed}
 use Rattle.blocks.specs.Meaning.{field}
+use Rattle.table_search.specs.Place.{Here}
 use Rattle.decoder_survey.specs.Measure.{fieldMeant}
-use Rattle.decoder_survey.proofs.Entries.{changes, Here, Located, located}
+use Rattle.decoder_survey.proofs.Entries.{changes, Located, located}
 use Rattle.decoder_survey.proofs.Fields.{meant-length, meant-written, names-entry, found, standing}
 use Rattle.decoder_fields.proofs.write.write_indexed.Statement.{statement}
 use Rattle.decoder_fields.proofs.write.write_indexed.Tie as tie
 
-at-place : (c : tie.After-place-of) → Located (now (c .before .before .before .before .args .m)) (c .before .before .before .before .args .index .value) (c .place-of .result)
-at-place c = let p = c .before .before .before .before .pre .0 in located _ (p .1) _ (c .place-of .ensures)
+at-place : (c : tie.After-locate) → Located (now (c .before .before .before .before .args .m)) (c .before .before .before .before .args .index .value) (c .locate .result)
+at-place c = let p = c .before .before .before .before .pre .0 in located _ (p .1) _ (c .locate .ensures)
 
-stands : (c : tie.After-place-of) → Here (c .place-of .result)
-stands c = standing _ _ _ (names-entry _ _) (c .place-of .result) (at-place c) (c .before .before .before .before .pre .1 .0)
+stands : (c : tie.After-locate) → Here (c .locate .result)
+stands c = standing _ _ _ (names-entry _ _) (c .locate .result) (at-place c) (c .before .before .before .before .pre .1 .0)
 
 abbrev the-field : tie.After-value-at → Field
 the-field c = record { flag = 0; name = now (c .before .name-at .result); value = now (c .value-at .result) }
@@ -30,8 +31,8 @@ means c =
     found _ _ _ (names-entry _ _) _ (at-place (c .before .before)) (stands (c .before .before))
     ∙ sym (ap₂ (λ (n v : List _). field (record { flag = 0; name = n; value = v })) (c .before .name-at .ensures) (c .value-at .ensures))
 
-place-of-requires : tie.Need-place-of-requires
-place-of-requires c κs = let p = c .before .before .before .pre .0 in (p .2, changes _ (p .1) .ordered)
+locate-requires : tie.Need-locate-requires
+locate-requires c κs = let p = c .before .before .before .pre .0 in (p .2, changes _ (p .1) .ordered)
 
 name-at-requires : tie.Need-name-at-requires
 name-at-requires c κs = let p = c .before .before .before .before .pre .0 in (p .0, (changes _ (p .1) .ordered, at-place c .inside (stands c)))
@@ -59,7 +60,7 @@ pub write-indexed-spec : {M : Type 1} → statement M
 write-indexed-spec =
     tie.close
     (tie.spec
-    place-of-requires
+    locate-requires
     name-at-requires
     value-at-requires
     write-field-requires

@@ -9,17 +9,18 @@ use Rattle.wire.specs.Text.{stringBytes}
 use Rattle.fields.specs.Form.{Field}
 use Rattle.fields.proofs.Sizes.{field-written}
 use Rattle.blocks.specs.Meaning.{FieldMeaning, field}
+use Rattle.table_search.specs.Place.{Here}
 use Rattle.decoder_survey.specs.Measure.{namedAt}
-use Rattle.decoder_survey.proofs.Entries.{changes, Here, Located, located}
+use Rattle.decoder_survey.proofs.Entries.{changes, Located, located}
 use Rattle.decoder_survey.proofs.Fields.{meant-positive, meant-length, meant-written, names-name, found, standing}
 use Rattle.decoder_fields.proofs.write.write_named.Statement.{statement}
 use Rattle.decoder_fields.proofs.write.write_named.Tie as tie
 
-at-place : (c : tie.After-place-of) → let a = c .before .before .before .before .before .args in Located (now (a .m)) (a .index .value) (c .place-of .result)
-at-place c = let p = c .before .before .before .before .before .pre in located _ (p .0 .1) _ (c .place-of .ensures)
+at-place : (c : tie.After-locate) → let a = c .before .before .before .before .before .args in Located (now (a .m)) (a .index .value) (c .locate .result)
+at-place c = let p = c .before .before .before .before .before .pre in located _ (p .0 .1) _ (c .locate .ensures)
 
-stands : (c : tie.After-place-of) → Here (c .place-of .result)
-stands c = standing _ _ _ (names-name _ _ _ _) (c .place-of .result) (at-place c) (c .before .before .before .before .before .pre .1 .1 .0)
+stands : (c : tie.After-locate) → Here (c .locate .result)
+stands c = standing _ _ _ (names-name _ _ _ _) (c .locate .result) (at-place c) (c .before .before .before .before .before .pre .1 .1 .0)
 
 abbrev meaning : tie.Start → FieldMeaning
 meaning c = let a = c .args in namedAt (now (a .m)) (now (a .s)) (a .flag) (a .index) (a .value)
@@ -35,8 +36,8 @@ means c =
     found _ _ _ (names-name _ _ _ _) _ (at-place (c .before)) (stands (c .before))
     ∙ sym (ap (λ (n : List _). field (record { flag = a .flag; name = n; value = stringBytes (now (a .s)) (a .value) })) (c .name-at .ensures))
 
-place-of-requires : tie.Need-place-of-requires
-place-of-requires c κs = let p = c .before .before .before .before .pre in (p .1 .0 .1 .0, changes _ (p .0 .1) .ordered)
+locate-requires : tie.Need-locate-requires
+locate-requires c κs = let p = c .before .before .before .before .pre in (p .1 .0 .1 .0, changes _ (p .0 .1) .ordered)
 
 slice-write-out : tie.Need-slice-write-out
 slice-write-out c =
@@ -83,7 +84,7 @@ pub write-named-spec : {M : Type 1} → statement M
 write-named-spec =
     tie.close
     (tie.spec
-    place-of-requires
+    locate-requires
     slice-write-out
     name-at-requires
     add-write-text

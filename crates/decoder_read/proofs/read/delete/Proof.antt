@@ -1,8 +1,6 @@
-use mathlib.Core.Path.{_≡_, refl, sym, _∙_}
+use mathlib.Core.Path.{refl, sym, _∙_}
 use Prim.Native.Nat.{_<_}
 use native.Mathlib.Omega.{arith}
-use Rattle.state.specs.Layout.{statusAt}
-use Rattle.table_search.proofs.Fields.{row-field}
 use Rattle.table_laws.specs.DecoderChanges.{found}
 use Rattle.decoder.proofs.Standing.{Stands, meets, changes, long}
 use Rattle.decoder_read.proofs.Deletion.{list-fine, delete-vacant, delete-again, delete-kept}
@@ -15,20 +13,13 @@ use Rattle.decoder_read.proofs.read.delete.Tie as tie
 stands : (c : tie.After-slice-known) → Stands (c .before .args .m .now)
 stands c = record { small = λ k. omega (arith, c .slice-known .given k); forms = c .before .pre .0 .1 }
 
-place-found : (c : tie.After-f) →
-    let a = c .before .before .before .before .before .before .args in
-    found (a .m .now) (a .index .value) (c .f .given .0 .0)
+place-found : (c : tie.After-f) → let a = c .before .before .before .before .before .before .args in found (a .m .now) (a .index .value) (c .f .given .0 .0)
 place-found c = sym (c .before .before .find .ensures) ∙ c .f .given .1
 
 near : (c : tie.After-f) → c .f .given .0 .0 < 128
 near c =
     let C = changes _ (stands (c .before .before .before .before .before)) in
     omega (arith, C .here _ _ (place-found c) .0, C .ordered .few)
-
-status : (c : tie.After-u16-at) →
-    let row = c .before .before .before .before in
-    c .u16-at .result ≡ statusAt (row .before .before .before .before .before .before .args .m .now) (row .f .given .0 .0)
-status c = row-field 2 10 _ _ (c .before .row-place .ensures) (c .u16-at .ensures)
 
 find-requires : tie.Need-find-requires
 find-requires c κs = (c .before .before .before .pre .0 .0 .0, changes _ (stands (c .before .before)) .ordered)
@@ -52,20 +43,8 @@ returns c =
     (delete-vacant _ (stands (seek .before .before .before)) _ _ _ (sym (seek .find .ensures) ∙ c .before .enum-told .given .1))
     (c .refused .ensures) refl
 
-row-place-requires : tie.Need-row-place-requires
-row-place-requires c κs = omega (arith, near (c .before .before))
-
-add-u16-at : tie.Need-add-u16-at
-add-u16-at c = search needs
-
-u16-at-requires : tie.Need-u16-at-requires
-u16-at-requires c κs = omega (
-  arith,
-  near (c .before .before .before),
-  c .row-place .ensures,
-  long _ (stands
-      (c .before .before .before .before .before .before .before .before)),
-)
+status-at-requires : tie.Need-status-at-requires
+status-at-requires c κs = (near (c .before .before), omega (arith, long _ (stands (c .before .before .before .before .before .before .before))))
 
 refused-requires-2 : tie.Need-refused-requires-2
 refused-requires-2 c κs = search needs
@@ -75,21 +54,16 @@ same-length-2 c = search needs
 
 returns-2 : tie.Need-returns-2
 returns-2 c =
-    let row = c .before .before .before .before .before .before in
+    let row = c .before .before .before .before .before in
     meets
-    (delete-again _ (stands (row .before .before .before .before .before)) _ _ _ (place-found row) (λ z. omega (
-      arith,
-      status
-          (c .before .before),
-      c .before .if1 .taken,
-    )))
+    (delete-again _ (stands (row .before .before .before .before .before)) _ _ _ (place-found row) (λ z. omega (arith, c .before .before .status-at .ensures, c .before .if1 .taken)))
     (c .refused2 .ensures) refl
 
 append-delete-requires : tie.Need-append-delete-requires
 append-delete-requires c κs =
-    let row = c .before .before .before .before .before .before in
+    let row = c .before .before .before .before .before in
     let st = stands (row .before .before .before .before .before) in
-    let room = changes _ st .room _ _ (place-found row) (omega (arith, status (c .before .before), c .before .if1 .left)) in
+    let room = changes _ st .room _ _ (place-found row) (omega (arith, c .before .before .status-at .ensures, c .before .if1 .left)) in
     ((near row, omega arith, long _ st), search needs)
 
 done-requires : tie.Need-done-requires
@@ -101,15 +75,11 @@ same-length-3 c = search needs
 returns-3 : tie.Need-returns-3
 returns-3 c =
     let test = c .before .before .before .before .before in
-    let row = test .before .before .before .before .before in
+    let row = test .before .before .before .before in
     let lists = row .before .before .before .before .before .before .pre .1 in
     meets
-    (delete-kept _ (stands (row .before .before .before .before .before)) _ _ _ (place-found row) (omega (
-      arith,
-      status
-          (test .before),
-      test .if1 .left,
-    )) (list-fine _ _ (lists .0)) (list-fine _ _ (lists .1)))
+    (delete-kept _ (stands (row .before .before .before .before .before)) _ _ _ (place-found row) (omega (arith, test .before .status-at .ensures, test .if1 .left))
+    (list-fine _ _ (lists .0)) (list-fine _ _ (lists .1)))
     (c .done .ensures) (c .before .before .before .append-delete .ensures)
 
 pub delete-spec : {M : Type 1} → statement M
@@ -122,9 +92,7 @@ delete-spec =
     refused-requires
     same-length
     returns
-    row-place-requires
-    add-u16-at
-    u16-at-requires
+    status-at-requires
     refused-requires-2
     same-length-2
     returns-2

@@ -1,4 +1,4 @@
-use mathlib.Core.Path.{_≡_, refl, ap, ap₂, _∙_}
+use mathlib.Core.Path.{refl, ap, ap₂, _∙_}
 use Prim.Native.Nat.{ℕ, _+_}
 use native.Mathlib.Omega.{arith}
 use Rattle.integers.specs.Answers.{refusal}
@@ -6,7 +6,6 @@ use Rattle.wire.specs.Text.{stringLength, stringBytes}
 use Rattle.wire.proofs.TextBounds.{string-size}
 use Rattle.state.specs.Layout.{nameLengthAt}
 use Rattle.state.specs.Rows.{nameAt}
-use Rattle.table_search.proofs.Fields.{row-field}
 use Rattle.decoder.proofs.Standing.{Stands, meets, changes, long}
 use Rattle.decoder_read.specs.Steps.{judged, judgedNumber}
 use Rattle.decoder_read.proofs.Naming.{row-name}
@@ -20,33 +19,22 @@ use Rattle.decoder_read.proofs.read.insert_by_row.Tie as tie
 stands : (c : tie.After-slice-known) → Stands (c .before .args .m .now)
 stands c = record { small = λ k. omega (arith, c .slice-known .given k); forms = c .before .pre .0 .1 }
 
-name-length : (c : tie.After-u16-at) →
-    let a = c .before .before .before .before .before .args in
-    c .u16-at .result ≡ nameLengthAt (a .m .now) (a .row)
-name-length c = row-field 2 6 _ _ (c .before .row-place .ensures) (c .u16-at .ensures)
-
 judgement : (c : tie.After-judge) →
-    let a = c .before .before .before .before .before .before .before .before .args in
+    let a = c .before .before .before .before .before .before .before .args in
     Judgement (a .m .now) (a .index .value) (nameAt (a .m .now) (a .row)) (stringBytes (a .s .now) (a .value))
     (nameLengthAt (a .m .now) (a .row)) (stringLength (a .s .now) (a .value)) (c .judge .result)
 judgement c =
-    let p = c .before .before .before .before .before .before .before .before .pre .1 in
+    let p = c .before .before .before .before .before .before .before .pre .1 in
     record {
-      name-is = row-name _ (stands (c .before .before .before .before .before .before .before)) _ _ (p .0) .2;
+      name-is = row-name _ (stands (c .before .before .before .before .before .before)) _ _ (p .0) .2;
       value-is = string-size _ _ (p .1 .0);
-      told = c .judge .ensures ∙ ap (judged _ _) (ap₂ (λ (n v : ℕ). n + v + 32) (name-length (c .before .before .before)) (c .before .length .ensures));
+      told = c .judge .ensures ∙ ap (judged _ _) (ap₂ (λ (n v : ℕ). n + v + 32) (c .before .before .before .name-length-at .ensures) (c .before .length .ensures));
     }
 
-row-place-requires : tie.Need-row-place-requires
-row-place-requires c κs = omega (arith, row-name _ (stands (c .before .before)) _ _ (c .before .before .before .pre .1 .0) .0)
-
-add-u16-at : tie.Need-add-u16-at
-add-u16-at c = search needs
-
-u16-at-requires : tie.Need-u16-at-requires
-u16-at-requires c κs =
-    let st = stands (c .before .before .before) in
-    omega (arith, row-name _ st _ _ (c .before .before .before .before .pre .1 .0) .0, c .row-place .ensures, long _ st)
+name-length-at-requires : tie.Need-name-length-at-requires
+name-length-at-requires c κs =
+    let st = stands (c .before .before) in
+    (row-name _ st _ _ (c .before .before .before .pre .1 .0) .0, omega (arith, long _ st))
 
 cast-name : tie.Need-cast-name
 cast-name c = search needs
@@ -62,9 +50,9 @@ add-judge-2 c = search needs
 
 judge-requires : tie.Need-judge-requires
 judge-requires c κs =
-    let p = c .before .before .before .before .before .before .before .pre in
-    let short = row-name _ (stands (c .before .before .before .before .before .before)) _ _ (p .1 .0) .1 in
-    (p .0 .0 .0, omega (arith, name-length (c .before .before), c .length .ensures, p .1 .1 .1), p .0 .1)
+    let p = c .before .before .before .before .before .before .pre in
+    let short = row-name _ (stands (c .before .before .before .before .before)) _ _ (p .1 .0) .1 in
+    (p .0 .0 .0, omega (arith, c .before .before .name-length-at .ensures, c .length .ensures, p .1 .1 .1), p .0 .1)
 
 enum-known-j : tie.Need-enum-known-j
 enum-known-j c = search needs
@@ -86,14 +74,14 @@ returns c =
     let w = c .before .before .before .before in
     let e = c .before .before .enum-told .given .1 in
     meets
-    (insert-refused _ (stands (w .before .before .before .before .before .before .before)) _ _ _ _ _ _ _ (judgement w) _ e)
+    (insert-refused _ (stands (w .before .before .before .before .before .before)) _ _ _ _ _ _ _ (judgement w) _ e)
     (c .refused .ensures ∙ ap refusal (c .before .number .ensures ∙ ap judgedNumber e)) refl
 
 insert-like-requires : tie.Need-insert-like-requires
 insert-like-requires c κs =
     let w = c .before .before .before .before in
-    let p = w .before .before .before .before .before .before .before .before .pre .1 in
-    let st = stands (w .before .before .before .before .before .before .before) in
+    let p = w .before .before .before .before .before .before .before .pre .1 in
+    let st = stands (w .before .before .before .before .before .before) in
     let J = judgement w in
     let e = c .before .before .j .given .1 in
     (p .1 .0, (changes _ st .named _ _ _ _ (insert-vacant _ st _ _ _ 0 _ _ _ J _ e) (p .0), insert-opening _ st _ _ _ 0 _ _ _ J _ e))
@@ -108,17 +96,14 @@ returns-2 : tie.Need-returns-2
 returns-2 c =
     let w = c .before .before .before .before .before .before .before .before in
     meets
-    (insert-done _ (stands (w .before .before .before .before .before .before .before)) _ _ _ _ _ _ _ (judgement w) _
-    (c .before .before .before .before .before .before .j .given .1) (w .before .before .before .before .before .before .before .before .pre .0 .0))
+    (insert-done _ (stands (w .before .before .before .before .before .before)) _ _ _ _ _ _ _ (judgement w) _ (c .before .before .before .before .before .before .j .given .1) (w .before .before .before .before .before .before .before .pre .0 .0))
     (c .done .ensures) (c .before .before .before .insert-like .ensures)
 
 pub insert-by-row-spec : {M : Type 1} → statement M
 insert-by-row-spec =
     tie.close
     (tie.spec
-    row-place-requires
-    add-u16-at
-    u16-at-requires
+    name-length-at-requires
     cast-name
     length-requires
     add-judge

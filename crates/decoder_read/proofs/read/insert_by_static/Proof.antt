@@ -23,7 +23,7 @@ stands c = record { small = λ k. omega (arith, c .slice-known .given k); forms 
 
 judgement : (c : tie.After-judge) →
     let a = c .before .before .before .before .before .before .before .before .args in
-    Judgement (a .m .now) (a .index .value) (staticName (a .named)) (stringBytes (a .s .now) (a .value))
+    Judgement (a .m .now) (a .index .value) (staticName (a .named .value)) (stringBytes (a .s .now) (a .value))
     (length (c .before .before .before .static-name .result .now)) (stringLength (a .s .now) (a .value)) (c .judge .result)
 judgement c =
     let name = c .before .before .before in
@@ -54,7 +54,7 @@ add-judge-2 c = search needs
 judge-requires : tie.Need-judge-requires
 judge-requires c κs =
     let p = c .before .before .before .before .before .before .before .pre in
-    let short = name-most (c .before .before .before .before .before .before .before .args .named) in
+    let short = name-most (c .before .before .before .before .before .before .before .args .named .value) in
     (p .0 .0 .0, omega (arith, ap length (c .before .before .static-name .ensures), c .length .ensures, p .1 .1), p .0 .1)
 
 enum-known-j : tie.Need-enum-known-j

@@ -1,13 +1,13 @@
 use native.Mathlib.Omega.{arith}
-use borrow.Author.Needs.{needs}
 use Rattle.deletes.proofs.Closing.{rows-kept, drop-closed}
+use borrow.Author.Needs.{needs}
 use Rattle.deletes.proofs.kept.drop_delete.Statement.{statement}
 use Rattle.deletes.proofs.kept.drop_delete.Tie as tie
 
 -- `deletes::kept::drop_delete` meets its contract: its steps are those of the definition, and the rows are as many as before.
 
-u16-at-requires : tie.Need-u16-at-requires
-u16-at-requires c κs = search needs
+delete-count-requires : tie.Need-delete-count-requires
+delete-count-requires c κs = search needs
 
 cast-n : tie.Need-cast-n
 cast-n c = search needs
@@ -33,14 +33,14 @@ mul-move-down c = search needs
 move-down-requires : tie.Need-move-down-requires
 move-down-requires c κs = search needs
 
-sub-put-u16 : tie.Need-sub-put-u16
-sub-put-u16 c = search needs
+sub-put-delete-count : tie.Need-sub-put-delete-count
+sub-put-delete-count c = search needs
 
-cast-put-u16 : tie.Need-cast-put-u16
-cast-put-u16 c = search needs
+cast-put-delete-count : tie.Need-cast-put-delete-count
+cast-put-delete-count c = search needs
 
-put-u16-requires : tie.Need-put-u16-requires
-put-u16-requires c κs = search needs
+put-delete-count-requires : tie.Need-put-delete-count-requires
+put-delete-count-requires c κs = search needs
 
 add-renumber : tie.Need-add-renumber
 add-renumber c = search needs
@@ -54,8 +54,8 @@ renumber-requires c κs =
     let q = p .before .before .before .before in
     let u = q .before .before .before .before in
     let a = u .before .before .before .args in
-    let rows = rows-kept (a .m .now) (a .k) _ _ _ (u .u16-at .ensures) (q .before .before .delete-place .ensures) (q .before .delete-place2 .ensures) _ _
-    (q .move-down .ensures) (p .put-u16 .ensures) in
+    let rows = rows-kept (a .m .now) (a .k) _ _ _ (u .delete-count .ensures) (q .before .before .delete-place .ensures) (q .before .delete-place2 .ensures) _ _
+    (q .move-down .ensures) (p .put-delete-count .ensures) in
     (omega (arith, rows), omega arith)
 
 same-length : tie.Need-same-length
@@ -67,14 +67,14 @@ returns c =
     let q = p .before .before .before .before in
     let u = q .before .before .before .before in
     let a = u .before .before .before .args in
-    drop-closed (a .m .now) (a .k) _ _ _ (u .u16-at .ensures) (q .before .before .delete-place .ensures) (q .before .delete-place2 .ensures) _ _
-    (q .move-down .ensures) (p .put-u16 .ensures) _ (c .before .before .renumber .ensures)
+    drop-closed (a .m .now) (a .k) _ _ _ (u .delete-count .ensures) (q .before .before .delete-place .ensures) (q .before .delete-place2 .ensures) _ _
+    (q .move-down .ensures) (p .put-delete-count .ensures) _ (c .before .before .renumber .ensures)
 
 pub drop-delete-spec : {M : Type 1} → statement M
 drop-delete-spec =
     tie.close
     (tie.spec
-    u16-at-requires
+    delete-count-requires
     cast-n
     delete-place-requires
     add-delete-place
@@ -83,9 +83,9 @@ drop-delete-spec =
     sub-move-down
     mul-move-down
     move-down-requires
-    sub-put-u16
-    cast-put-u16
-    put-u16-requires
+    sub-put-delete-count
+    cast-put-delete-count
+    put-delete-count-requires
     add-renumber
     cast-renumber
     renumber-requires

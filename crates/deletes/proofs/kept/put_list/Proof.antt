@@ -1,7 +1,7 @@
-use borrow.Author.Needs.{needs}
 use Rattle.wire.specs.StreamList.{listOf}
 use Rattle.deletes.proofs.Stored.{list-stored}
 use Rattle.deletes.proofs.Listing.{list-counted}
+use borrow.Author.Needs.{needs}
 use Rattle.deletes.proofs.kept.put_list.Statement.{statement}
 use Rattle.deletes.proofs.kept.put_list.Tie as tie
 
@@ -10,35 +10,29 @@ use Rattle.deletes.proofs.kept.put_list.Tie as tie
 cast-count : tie.Need-cast-count
 cast-count c = search needs
 
-cast-put-u16 : tie.Need-cast-put-u16
-cast-put-u16 c = search needs
+cast-put-horizon : tie.Need-cast-put-horizon
+cast-put-horizon c = search needs
 
-put-u16-requires : tie.Need-put-u16-requires
-put-u16-requires c κs = search needs
+put-horizon-requires : tie.Need-put-horizon-requires
+put-horizon-requires c κs = search needs
 
-add-put-u16 : tie.Need-add-put-u16
-add-put-u16 c = search needs
+cast-put-listed-count : tie.Need-cast-put-listed-count
+cast-put-listed-count c = search needs
 
-cast-put-u16-2 : tie.Need-cast-put-u16-2
-cast-put-u16-2 c = search needs
+put-listed-count-requires : tie.Need-put-listed-count-requires
+put-listed-count-requires c κs = search needs
 
-put-u16-requires-2 : tie.Need-put-u16-requires-2
-put-u16-requires-2 c κs = search needs
-
-add-put-streams : tie.Need-add-put-streams
-add-put-streams c = search needs
+listed-place-requires : tie.Need-listed-place-requires
+listed-place-requires c κs = search needs
 
 put-streams-requires : tie.Need-put-streams-requires
 put-streams-requires c κs = search needs
 
-add-put-zeros : tie.Need-add-put-zeros
-add-put-zeros c = search needs
-
 mul-put-zeros : tie.Need-mul-put-zeros
 mul-put-zeros c = search needs
 
-add-put-zeros-2 : tie.Need-add-put-zeros-2
-add-put-zeros-2 c = search needs
+add-put-zeros : tie.Need-add-put-zeros
+add-put-zeros c = search needs
 
 mul-put-zeros-2 : tie.Need-mul-put-zeros-2
 mul-put-zeros-2 c = search needs
@@ -56,28 +50,28 @@ returns : tie.Need-returns
 returns c =
     let z = c .before .before in
     let p = z .before .before .before .before in
-    let q = p .before .before .before .before in
+    let place = p .before .before in
+    let q = place .before .before .before in
     let u = q .before .before .before .before .before in
     let b = u .before .before .before .before .before .before in
     let a = b .args in
     list-stored (listOf (a .s .now) (a .list)) (a .list .count) (list-counted (a .s .now) (a .list) (b .pre .0)) (a .m .now) _ _ _ _ (a .at)
-    (u .put-u16 .ensures) (q .put-u162 .ensures) (p .put-streams .ensures) (z .put-zeros .ensures)
+    (u .put-horizon .ensures) (q .put-listed-count .ensures) (rw (place .listed-place .ensures) at (p .put-streams .ensures))
+    (rw (place .listed-place .ensures) at (z .put-zeros .ensures))
 
 pub put-list-spec : {M : Type 1} → statement M
 put-list-spec =
     tie.close
     (tie.spec
     cast-count
-    cast-put-u16
-    put-u16-requires
-    add-put-u16
-    cast-put-u16-2
-    put-u16-requires-2
-    add-put-streams
+    cast-put-horizon
+    put-horizon-requires
+    cast-put-listed-count
+    put-listed-count-requires
+    listed-place-requires
     put-streams-requires
-    add-put-zeros
     mul-put-zeros
-    add-put-zeros-2
+    add-put-zeros
     mul-put-zeros-2
     sub-put-zeros
     put-zeros-requires

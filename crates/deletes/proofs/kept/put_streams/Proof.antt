@@ -46,14 +46,8 @@ returns c =
     let t = c .before .before .before in
     absurd (never-refused _ _ _ _ _ _ _ _ (t .before .loop .inv .2) (t .loop-test .taken) _ (c .before .before .read-delta .ensures) _ (c .enum-told .given .1))
 
-mul-put-u16 : tie.Need-mul-put-u16 Inv-loop μ-loop
-mul-put-u16 c = omega arith
-
-add-put-u16 : tie.Need-add-put-u16 Inv-loop μ-loop
-add-put-u16 c = omega arith
-
-put-u16-requires : tie.Need-put-u16-requires Inv-loop μ-loop
-put-u16-requires c κs = omega arith
+put-listed-requires : tie.Need-put-listed-requires Inv-loop μ-loop
+put-listed-requires c κs = omega arith
 
 cast-last : tie.Need-cast-last Inv-loop μ-loop
 cast-last c = search needs
@@ -71,8 +65,8 @@ loop-again c =
     let t = r .before .before .before in
     let l = t .before .loop in (
       omega arith,
-      ap length (p .put-u16 .ensures) ∙ simp length-overlay (l .inv .1),
-      left-less _ _ _ _ _ _ _ _ (l .inv .2) (t .loop-test .taken) _ (r .before .before .read-delta .ensures) _ _ (r .r .given .1) _ (p .put-u16 .ensures),
+      ap length (p .put-listed .ensures) ∙ simp length-overlay (l .inv .1),
+      left-less _ _ _ _ _ _ _ _ (l .inv .2) (t .loop-test .taken) _ (r .before .before .read-delta .ensures) _ _ (r .r .given .1) _ (p .put-listed .ensures),
     )
 
 same-length-2 : tie.Need-same-length-2 Inv-loop μ-loop
@@ -94,9 +88,7 @@ put-streams-spec =
     enum-told
     same-length
     returns
-    mul-put-u16
-    add-put-u16
-    put-u16-requires
+    put-listed-requires
     cast-last
     add-i
     loop-less

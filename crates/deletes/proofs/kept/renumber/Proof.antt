@@ -1,12 +1,11 @@
-use Prim.Native.Nat.{ℕ, _+_, _-_, _≤_}
+use Prim.Native.Nat.{ℕ, _-_, _≤_}
 use mathlib.Core.Path.{_≡_, refl, sym, ap, _∙_}
 use mathlib.Core.Logic.{⊎-elim}
 use native.Mathlib.Omega.{arith}
-use borrow.Author.Needs.{needs}
 use lib.ListN.{length}
-use Rattle.memory.specs.Numbers.{number}
+use Rattle.memory.proofs.Overlay.{length-overlay}
 use Rattle.deletes.specs.Deletes.{renumbered}
-use Rattle.deletes.proofs.Renumbering.{length-statusSet, renumber-all, renumber-none, renumber-lower, renumber-keep}
+use Rattle.deletes.proofs.Renumbering.{renumber-all, renumber-none, renumber-lower, renumber-keep}
 use Rattle.deletes.proofs.kept.renumber.Statement.{statement}
 use Rattle.deletes.proofs.kept.renumber.Tie as tie
 
@@ -19,29 +18,23 @@ Inv-loop m₀ status count i₀ m i =
 abbrev μ-loop : tie.MeasureT-loop
 μ-loop m₀ status count i₀ m i = count - i
 
-u16-at-requires : tie.Need-u16-at-requires Inv-loop μ-loop
-u16-at-requires c κs = omega arith
+count-of-requires : tie.Need-count-of-requires Inv-loop μ-loop
+count-of-requires c κs = omega arith
 
 cast-count : tie.Need-cast-count Inv-loop μ-loop
-cast-count c = search needs
+cast-count c = omega arith
 
 loop-holds : tie.Need-loop-holds Inv-loop μ-loop
 loop-holds c = (omega arith, refl, renumber-all _ _ _)
 
-row-place-requires : tie.Need-row-place-requires Inv-loop μ-loop
-row-place-requires c κs = omega arith
+status-at-requires : tie.Need-status-at-requires Inv-loop μ-loop
+status-at-requires c κs = omega arith
 
-add-u16-at : tie.Need-add-u16-at Inv-loop μ-loop
-add-u16-at c = omega arith
+sub-put-status : tie.Need-sub-put-status Inv-loop μ-loop
+sub-put-status c = omega arith
 
-u16-at-requires-2 : tie.Need-u16-at-requires-2 Inv-loop μ-loop
-u16-at-requires-2 c κs = omega arith
-
-sub-set-status : tie.Need-sub-set-status Inv-loop μ-loop
-sub-set-status c = omega arith
-
-set-status-requires : tie.Need-set-status-requires Inv-loop μ-loop
-set-status-requires c κs = omega arith
+put-status-requires : tie.Need-put-status-requires Inv-loop μ-loop
+put-status-requires c κs = omega arith
 
 add-i : tie.Need-add-i Inv-loop μ-loop
 add-i c = omega arith
@@ -51,15 +44,15 @@ loop-less c = omega arith
 
 loop-again : tie.Need-loop-again Inv-loop μ-loop
 loop-again c =
-    let t = c .before .before .before .before in
+    let t = c .before .before .before in
     let l = t .before .loop in
     let a = t .before .before .before .before .before .args in
-    let old = c .before .u16-at2 .ensures ∙ ap (λ (k : ℕ). number 2 (l .m) (k + 10)) (c .before .before .row-place .ensures) in
+    let old = c .before .status-at .ensures in
     ⊎-elim
     (λ w.
     let stored = w .5 ∙ w .2 .ensures in (
       omega arith,
-      ap length stored ∙ length-statusSet (l .m) _ _ ∙ l .inv .1,
+      ap length stored ∙ simp length-overlay (l .inv .1),
       l .inv .2 ∙ renumber-lower (a .status) _ _ (l .m) (t .loop-test .taken) _ old (w .0 .taken) _ stored,
     ))
     (λ w. (
@@ -77,7 +70,7 @@ returns c =
     let l = c .before .loop in
     let a = c .before .before .before .before .before .args in
     sym (renumber-none (a .status) _ _ _ (c .loop-test .left)) ∙ sym (l .inv .2)
-    ∙ ap (λ (k : ℕ). renumbered (a .status) k (a .m .now) 0) (c .before .before .u16-at .ensures)
+    ∙ ap (λ (k : ℕ). renumbered (a .status) k (a .m .now) 0) (c .before .before .count-of .ensures)
 
 pub renumber-spec : {M : Type 1} → statement M
 renumber-spec =
@@ -85,14 +78,12 @@ renumber-spec =
     (tie.spec
     Inv-loop
     μ-loop
-    u16-at-requires
+    count-of-requires
     cast-count
     loop-holds
-    row-place-requires
-    add-u16-at
-    u16-at-requires-2
-    sub-set-status
-    set-status-requires
+    status-at-requires
+    sub-put-status
+    put-status-requires
     add-i
     loop-less
     loop-again

@@ -1,17 +1,14 @@
-use Prim.Native.Nat.{ℕ, _+_}
+use Prim.Native.Nat.{ℕ}
 use mathlib.Core.Path.{ap, _∙_}
-use borrow.Author.Needs.{needs}
 use Rattle.deletes.specs.Deletes.{raisedAt}
+use borrow.Author.Needs.{needs}
 use Rattle.deletes.proofs.references.refer_trailer.Statement.{statement}
 use Rattle.deletes.proofs.references.refer_trailer.Tie as tie
 
 -- `deletes::references::refer_trailer` meets its contract: the horizon stands at the place of the definition.
 
-reference-place-requires : tie.Need-reference-place-requires
-reference-place-requires c κs = search needs
-
-add-raise : tie.Need-add-raise
-add-raise c = search needs
+trailer-reference-requires : tie.Need-trailer-reference-requires
+trailer-reference-requires c κs = search needs
 
 raise-requires : tie.Need-raise-requires
 raise-requires c κs = search needs
@@ -22,8 +19,8 @@ same-length c = search needs
 returns : tie.Need-returns
 returns c =
     let a = c .before .before .before .before .before .before .args in
-    c .before .before .raise .ensures ∙ ap (λ (k : ℕ). raisedAt (a .m .now) (k + 38) (a .stream .value)) (c .before .before .before .reference-place .ensures)
+    c .before .before .raise .ensures ∙ ap (λ (k : ℕ). raisedAt (a .m .now) k (a .stream .value)) (c .before .before .before .trailer-reference .ensures)
 
 pub refer-trailer-spec : {M : Type 1} → statement M
 refer-trailer-spec =
-    tie.close (tie.spec reference-place-requires add-raise raise-requires same-length returns)
+    tie.close (tie.spec trailer-reference-requires raise-requires same-length returns)

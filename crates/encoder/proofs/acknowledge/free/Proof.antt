@@ -1,13 +1,10 @@
 -- `encoder::acknowledge::free` meets its contract: each way out is one law of `Acknowledging`.
-use Prim.Native.Nat.{ℕ, _+_}
-use mathlib.Core.Path.{_≡_, refl, sym, ap, _∙_}
+use mathlib.Core.Path.{refl, sym, _∙_}
 use native.Mathlib.Omega.{arith}
 use borrow.Author.Needs.{needs}
 use Rattle.memory.specs.Bytes.{Small}
-use Rattle.memory.specs.Numbers.{number}
 use Rattle.table_laws.specs.DecoderChanges.{found}
 use Rattle.table_laws.specs.EncoderChanges.{EncoderChanges}
-use Rattle.state.specs.Layout.{statusAt}
 use Rattle.state.specs.EncoderState.{encoderOf}
 use Rattle.encoder.proofs.Leaving.{answer-of, memory-of}
 use Rattle.encoder.proofs.Standing.{changes, row-found}
@@ -21,15 +18,9 @@ small c k = omega (arith, c .slice-known .given k)
 stands : (c : tie.After-slice-known) → EncoderChanges (c .before .args .m .now) (encoderOf (c .before .args .m .now))
 stands c = changes _ (small c) (c .before .pre .1)
 
--- the row that was found, and its status
-abbrev start : tie.After-known-told → tie.Start
-start c = c .before .before .before .before .before .before
-
-at : (c : tie.After-known-told) → found (start c .args .m .now) (start c .args .index .value) (c .before .f .given .0 .0)
+-- the row that was found
+at : (c : tie.After-known-told) → found (c .before .before .before .before .before .before .args .m .now) (c .before .before .before .before .before .before .args .index .value) (c .before .f .given .0 .0)
 at c = sym (c .before .before .before .find .ensures) ∙ c .before .f .given .1
-
-status : (c : tie.After-u16-at) → c .u16-at .result ≡ statusAt (start (c .before .before .before) .args .m .now) (c .before .before .before .before .f .given .0 .0)
-status c = c .u16-at .ensures ∙ ap (λ (row : ℕ). number 2 (start (c .before .before .before) .args .m .now) (row + 10)) (c .before .row-place .ensures)
 
 find-requires : tie.Need-find-requires
 find-requires c κs = (c .before .before .pre .0, stands (c .before) .ordered)
@@ -53,20 +44,11 @@ returns c =
     let e = freed-missing _ (small s) (p .1) _ _ (s .before .args .taken) (sym (c .before .before .before .find .ensures) ∙ c .before .enum-told .given .1) in
     (answer-of e (c .refused .ensures), memory-of e refl)
 
-row-place-requires : tie.Need-row-place-requires
-row-place-requires c κs =
+status-at-requires : tie.Need-status-at-requires
+status-at-requires c κs =
     let k = c .before in
     let s = k .before .before .before .before .before in
-    omega (arith, row-found _ (small s) (s .before .pre .1) _ _ (at k) .below)
-
-add-u16-at : tie.Need-add-u16-at
-add-u16-at c = search needs
-
-u16-at-requires : tie.Need-u16-at-requires
-u16-at-requires c κs =
-    let k = c .before .before in
-    let s = k .before .before .before .before .before in
-    omega (arith, row-found _ (small s) (s .before .pre .1) _ _ (at k) .below, stands s .ordered .long)
+    (row-found _ (small s) (s .before .pre .1) _ _ (at k) .below, omega (arith, stands s .ordered .long))
 
 refused-requires-2 : tie.Need-refused-requires-2
 refused-requires-2 c κs = search needs
@@ -76,13 +58,13 @@ same-length-2 c = search needs
 
 returns-2 : tie.Need-returns-2
 returns-2 c =
-    let k = c .before .before .before .before .before in
+    let k = c .before .before .before .before in
     let s = k .before .before .before .before .before in
-    let e = freed-live _ (small s) (s .before .pre .1) _ _ (s .before .args .taken) (at k) (sym (status (c .before .before)) ∙ c .before .if1 .taken) in
+    let e = freed-live _ (small s) (s .before .pre .1) _ _ (s .before .args .taken) (at k) (sym (c .before .before .status-at .ensures) ∙ c .before .if1 .taken) in
     (answer-of e (c .refused2 .ensures), memory-of e refl)
 
 remove-requires : tie.Need-remove-requires
-remove-requires c κs = let k = c .before .before .before .before .before in stands (k .before .before .before .before .before) .removing _ _ (at k)
+remove-requires c κs = let k = c .before .before .before .before in stands (k .before .before .before .before .before) .removing _ _ (at k)
 
 done-requires : tie.Need-done-requires
 done-requires c κs = search needs
@@ -93,9 +75,9 @@ same-length-3 c = search needs
 returns-3 : tie.Need-returns-3
 returns-3 c =
     let i = c .before .before .before .before .before in
-    let k = i .before .before .before .before in
+    let k = i .before .before .before in
     let s = k .before .before .before .before .before in
-    let e = freed-done _ (small s) (s .before .pre .1) _ _ (s .before .args .taken) (at k) (λ z. i .if1 .left (status (i .before) ∙ z)) in
+    let e = freed-done _ (small s) (s .before .pre .1) _ _ (s .before .args .taken) (at k) (λ z. i .if1 .left (i .before .status-at .ensures ∙ z)) in
     (answer-of e (c .done .ensures), memory-of e (c .before .before .before .remove .ensures))
 
 pub free-spec : {M : Type 1} → statement M
@@ -108,9 +90,7 @@ free-spec =
     refused-requires
     same-length
     returns
-    row-place-requires
-    add-u16-at
-    u16-at-requires
+    status-at-requires
     refused-requires-2
     same-length-2
     returns-2

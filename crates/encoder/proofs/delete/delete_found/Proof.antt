@@ -1,8 +1,10 @@
 -- `encoder::delete::delete_found` meets its contract: the horizons read are the entry's, so the size is the length of its delete.
-use mathlib.Core.Path.{refl}
+use mathlib.Core.Path.{_≡_, refl, ap, _∙_}
 use native.Mathlib.Omega.{arith}
 use borrow.Author.Needs.{needs}
 use Rattle.memory.specs.Bytes.{Small}
+use Rattle.memory.specs.Numbers.{number}
+use Rattle.state.specs.EncoderState.{nontrailerAt, trailerAt}
 use Rattle.encoder.proofs.Leaving.{answer-of, memory-of, output-of}
 use Rattle.encoder.proofs.Standing.{RowFound, row-found, long}
 use Rattle.encoder.proofs.Deleting.{said-fine, said-length, found-short, found-done}
@@ -15,26 +17,31 @@ small c k = omega (arith, c .slice-known .given k)
 row : (c : tie.After-slice-known) → RowFound (c .before .args .m .now) (c .before .args .index .value) (c .before .args .place)
 row c = row-found _ (small c) (c .before .pre .0) _ _ (c .before .pre .1 .0)
 
-reference-place-requires : tie.Need-reference-place-requires
-reference-place-requires c κs = let r = row (c .before) in (r .low, r .high)
+-- the horizons that are read
+nontrailer : (c : tie.After-horizon-at) → c .horizon-at .result ≡ nontrailerAt (c .before .before .before .before .before .args .m .now) (c .before .before .before .before .before .args .index .value)
+nontrailer c = c .horizon-at .ensures ∙ ap (number 2 (c .before .before .before .before .before .args .m .now)) (c .before .nontrailer-reference .ensures)
 
-u16-at-requires : tie.Need-u16-at-requires
-u16-at-requires c κs =
+trailer : (c : tie.After-horizon-at2) → c .horizon-at2 .result ≡ trailerAt (c .before .before .before .before .before .before .before .before .args .m .now) (c .before .before .before .before .before .before .before .before .args .index .value)
+trailer c = c .horizon-at2 .ensures ∙ ap (number 2 (c .before .before .before .before .before .before .before .before .args .m .now)) (c .before .trailer-reference .ensures)
+
+nontrailer-reference-requires : tie.Need-nontrailer-reference-requires
+nontrailer-reference-requires c κs = let r = row (c .before .before) in (r .low, r .high)
+
+horizon-at-requires : tie.Need-horizon-at-requires
+horizon-at-requires c κs =
     let s = c .before .before .before in
-    let r = row s in
-    omega (arith, c .before .reference-place .ensures, r .high, long _ (small s) (s .before .pre .0))
+    omega (arith, c .nontrailer-reference .ensures, row s .high, long _ (small s) (s .before .pre .0))
 
 cast-nontrailer : tie.Need-cast-nontrailer
 cast-nontrailer c = search needs
 
-add-u16-at : tie.Need-add-u16-at
-add-u16-at c = search needs
+trailer-reference-requires : tie.Need-trailer-reference-requires
+trailer-reference-requires c κs = let r = row (c .before .before .before .before .before) in (r .low, r .high)
 
-u16-at-requires-2 : tie.Need-u16-at-requires-2
-u16-at-requires-2 c κs =
-    let s = c .before .before .before .before .before in
-    let r = row s in
-    omega (arith, c .before .before .before .reference-place .ensures, r .high, long _ (small s) (s .before .pre .0))
+horizon-at-requires-2 : tie.Need-horizon-at-requires-2
+horizon-at-requires-2 c κs =
+    let s = c .before .before .before .before .before .before in
+    omega (arith, c .trailer-reference .ensures, row s .high, long _ (small s) (s .before .pre .0))
 
 cast-trailer : tie.Need-cast-trailer
 cast-trailer c = search needs
@@ -51,13 +58,11 @@ same-length c = search needs
 returns : tie.Need-returns
 returns c =
     let t = c .before .before .before in
-    let u = t .before .before in
-    let s = u .before .before .before .before in
+    let s = t .before .before .before .before .before .before .before in
     let a = s .before .args in
     let p = s .before .pre in
-    let e = found-short (a .m .now) (small s) (p .0) (a .index .value) (a .place) (p .1 .0) (p .1 .1) _ _ _ _
-    (u .before .before .reference-place .ensures) (u .u16-at .ensures) (t .u16-at2 .ensures) (c .before .before .delete-size .ensures .0)
-    (a .out .now) (c .before .if1 .taken) in
+    let e = found-short (a .m .now) (small s) (p .0) (a .index .value) (a .place) (p .1 .0) (p .1 .1) _ _ _
+    (nontrailer (t .before .before .before)) (trailer t) (c .before .before .delete-size .ensures .0) (a .out .now) (c .before .if1 .taken) in
     (answer-of e (c .refused .ensures), (memory-of e refl, output-of e refl))
 
 array-share-prefix-none : tie.Need-array-share-prefix-none
@@ -70,22 +75,20 @@ write-delete-requires : tie.Need-write-delete-requires
 write-delete-requires c κs =
     let size = c .before .before .before .delete-size .ensures .0 in
     let t = c .before .before .before .before in
-    let u = t .before .before in
-    let at = u .before .before .reference-place .ensures in
-    let s = u .before .before .before .before in
+    let s = t .before .before .before .before .before .before .before in
     let a = s .before .args in
     let p = s .before .pre in (
-      said-fine (a .m .now) (small s) (p .0) (a .index .value) (a .place) (p .1 .0) (p .1 .1) _ _ _ _ at (u .u16-at .ensures) (t .u16-at2 .ensures) size,
+      said-fine (a .m .now) (small s) (p .0) (a .index .value) (a .place) (p .1 .0) (p .1 .1) _ _ _ (nontrailer (t .before .before .before)) (trailer t) size,
       omega (
         arith,
-        said-length (a .m .now) (small s) (p .0) (a .index .value) (a .place) (p .1 .0) (p .1 .1) _ _ _ _ at (u .u16-at .ensures) (t .u16-at2 .ensures) size,
+        said-length (a .m .now) (small s) (p .0) (a .index .value) (a .place) (p .1 .0) (p .1 .1) _ _ _ (nontrailer (t .before .before .before)) (trailer t) size,
         c .before .before .if1 .left,
       ),
     )
 
-set-status-requires : tie.Need-set-status-requires
-set-status-requires c κs =
-    let s = c .before .before .before .before .before .before .before .before .before .before .before .before .before .before in
+put-status-requires : tie.Need-put-status-requires
+put-status-requires c κs =
+    let s = c .before .before .before .before .before .before .before .before .before .before .before .before .before .before .before in
     (row s .below, omega (arith, long _ (small s) (s .before .pre .0)))
 
 cast-done : tie.Need-cast-done
@@ -105,23 +108,22 @@ returns-2 c =
     let w = c .before .before .before .before .before .before .before in
     let n = w .before .before .before in
     let t = n .before .before in
-    let u = t .before .before in
-    let s = u .before .before .before .before in
+    let s = t .before .before .before .before .before .before .before in
     let a = s .before .args in
     let p = s .before .pre in
-    let e = found-done (a .m .now) (small s) (p .0) (a .index .value) (a .place) (p .1 .0) (p .1 .1) _ _ _ _
-    (u .before .before .reference-place .ensures) (u .u16-at .ensures) (t .u16-at2 .ensures) (n .before .delete-size .ensures .0) (a .out .now) (n .if1 .left) in
-    (answer-of e (c .done .ensures), (memory-of e (c .before .before .before .set-status .ensures), output-of e (w .write-delete .ensures .1)))
+    let e = found-done (a .m .now) (small s) (p .0) (a .index .value) (a .place) (p .1 .0) (p .1 .1) _ _ _
+    (nontrailer (t .before .before .before)) (trailer t) (n .before .delete-size .ensures .0) (a .out .now) (n .if1 .left) in
+    (answer-of e (c .done .ensures), (memory-of e (c .before .before .before .put-status .ensures), output-of e (w .write-delete .ensures .1)))
 
 pub delete-found-spec : {M : Type 1} → statement M
 delete-found-spec =
     tie.close
     (tie.spec
-    reference-place-requires
-    u16-at-requires
+    nontrailer-reference-requires
+    horizon-at-requires
     cast-nontrailer
-    add-u16-at
-    u16-at-requires-2
+    trailer-reference-requires
+    horizon-at-requires-2
     cast-trailer
     delete-size-requires
     refused-requires
@@ -130,7 +132,7 @@ delete-found-spec =
     array-share-prefix-none
     slice-aggregate-empty
     write-delete-requires
-    set-status-requires
+    put-status-requires
     cast-done
     done-requires
     same-length-2

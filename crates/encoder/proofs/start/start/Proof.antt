@@ -6,6 +6,9 @@ use Rattle.encoder.proofs.Starting.{start-over, start-short, start-fres
 use Rattle.encoder.proofs.start.start.Statement.{statement}
 use Rattle.encoder.proofs.start.start.Tie as tie
 
+cast-if1 : tie.Need-cast-if1
+cast-if1 c = search needs
+
 refused-requires : tie.Need-refused-requires
 refused-requires c κs = search needs
 
@@ -44,14 +47,4 @@ returns-3 c =
 
 pub start-spec : {M : Type 1} → statement M
 start-spec =
-    tie.close
-    (tie.spec
-    refused-requires
-    returns
-    refused-requires-2
-    returns-2
-    cast-start
-    start-requires
-    done-requires
-    same-length
-    returns-3)
+    tie.close (tie.spec cast-if1 refused-requires returns refused-requires-2 returns-2 cast-start start-requires done-requires same-length returns-3)

@@ -1,10 +1,10 @@
--- `block` meets its contract: the three tests in their order, and then `give`.
--- what is told of the part's turn, by the model's marks
+-- `block` meets its contract: the three tests in their order, and then `give`, for the stream and the part that the call's numbers name.
 use denote.Ref.{now}
 use mathlib.Core.Path.{_≡_, sym, ap, _∙_}
 use mathlib.Core.Bool.{true}
 use native.Mathlib.Omega.{arith}
 use borrow.Author.Tests.{not-true, not-false}
+use borrow.Author.Needs.{needs}
 use Rattle.memory.specs.Bytes.{Small}
 use Rattle.integers.specs.Answers.{refusal}
 use Rattle.fields.specs.Reading.{readFieldList}
@@ -13,27 +13,26 @@ use Rattle.model.specs.Parts.{Marks, partOf}
 use Rattle.state.specs.EncoderState.{encoderOf}
 use Rattle.state.specs.Forms.{formsEncoder}
 use Rattle.state_laws.proofs.EncoderForms.{forms-holds-encoder}
-use Rattle.parts.specs.Turn.{partTurn}
-use Rattle.encoder_block.proofs.Giving.{tells-refused, written-marks, list-refused, not-formed, not-in-turn, not-a-list}
-use borrow.Author.Needs.{needs}
+use Rattle.parts.specs.Turn.{turnOf}
+use Rattle.parts.proofs.Given.{Given, given, none-given}
+use Rattle.encoder_block.proofs.Giving.{tells-refused, written-marks, list-refused, not-formed, not-in-turn, not-a-list, named-turn, same-call}
 use Rattle.encoder_block.proofs.block.block.Statement.{statement}
 use Rattle.encoder_block.proofs.block.block.Tie as tie
 
 formed : (c : tie.Else1) → formsEncoder (now (c .before .before .before .before .before .before .args .m)) ≡ true
 formed c = sym (c .before .forms-encoder .ensures) ∙ not-false _ (c .if1 .left)
 
-abbrev start : tie.After-in-turn → tie.Start
-start c = c .before .before .before .before .before .before .before .before
-
-turned : (c : tie.After-in-turn)
-    → c .in-turn .result ≡ partTurn (encoderOf (now (start c .args .m)) .written) (start c .args .stream) (partOf (start c .args .part))
+-- what is told of the part's turn, by the model's marks
+turned : (c : tie.After-turn-of)
+    → turnOf (encoderOf (now (c .before .before .before .before .before .before .before .before .args .m)) .written) (c .before .before .before .before .before .before .before .before .args .stream) (partOf (c .before .before .before .before .before .before .before .before .args .part)) ≡ c .turn-of .result
 turned c =
-    c .in-turn .ensures
-    ∙ ap (λ (marks : Marks). partTurn marks (start c .args .stream) (partOf (start c .args .part))) (written-marks (now (start c .args .m)))
+    let a = c .before .before .before .before .before .before .before .before .args in
+    sym (c .turn-of .ensures ∙ ap (λ (marks : Marks). turnOf marks (a .stream) (partOf (a .part))) (written-marks (now (a .m))))
 
-due : (c : tie.Else2)
-    → partTurn (encoderOf (now (start (c .before) .args .m)) .written) (start (c .before) .args .stream) (partOf (start (c .before) .args .part)) ≡ true
-due c = sym (turned (c .before)) ∙ not-false _ (c .if2 .left)
+named : (c : tie.After-known-told)
+    → let a = c .before .before .before .before .before .before .before .before .before .before .before .args in
+    Given (encoderOf (now (a .m)) .written) (a .stream) (a .part) (c .before .turn .given .0 .0) (c .before .turn .given .0 .1 .0)
+named c = given _ _ _ _ _ (turned (c .before .before .before) ∙ c .before .turn .given .1)
 
 forms-encoder-requires : tie.Need-forms-encoder-requires
 forms-encoder-requires c κs = search needs
@@ -50,11 +49,17 @@ returns c =
     let e = sym (c .before .before .forms-encoder .ensures) ∙ not-true _ (c .before .if1 .taken) in
     tells-refused _ _ _ 17 (not-formed (now (a .m)) (a .stream) (a .part) (now (a .s)) (now (a .out)) e) _ (c .refused .ensures)
 
-in-turn-requires : tie.Need-in-turn-requires
-in-turn-requires c κs =
+turn-of-requires : tie.Need-turn-of-requires
+turn-of-requires c κs =
     let known = c .before .before .before .before .before .before in
     let small : Small (now (known .before .args .m)) = λ k. omega (arith, known .slice-known .given k) in
     omega (arith, forms-holds-encoder _ small (formed (c .before)) .long)
+
+enum-known-turn : tie.Need-enum-known-turn
+enum-known-turn c = search needs
+
+enum-told : tie.Need-enum-told
+enum-told c = search needs
 
 refused-requires-2 : tie.Need-refused-requires-2
 refused-requires-2 c κs = search needs
@@ -64,9 +69,9 @@ same-length-2 c = search needs
 
 returns-2 : tie.Need-returns-2
 returns-2 c =
-    let a = c .before .before .before .before .before .before .before .before .before .before .args in
-    let e = sym (turned (c .before .before)) ∙ not-true _ (c .before .if2 .taken) in
-    tells-refused _ _ _ 11 (not-in-turn (now (a .m)) (a .stream) (a .part) (now (a .s)) (now (a .out)) (formed (c .before .before .before .before)) e) _ (c .refused2 .ensures)
+    let a = c .before .before .before .before .before .before .before .before .before .before .before .args in
+    let e = none-given _ _ _ (turned (c .before .before .before) ∙ c .before .enum-told .given .1) in
+    tells-refused _ _ _ 11 (not-in-turn (now (a .m)) (a .stream) (a .part) (now (a .s)) (now (a .out)) (formed (c .before .before .before .before .before)) e) _ (c .refused2 .ensures)
 
 check-list-requires : tie.Need-check-list-requires
 check-list-requires c κs = search needs
@@ -79,18 +84,15 @@ same-length-3 c = search needs
 
 returns-3 : tie.Need-returns-3
 returns-3 c =
-    let a = c .before .before .before .before .before .before .before .before .before .before .before .before .args in
+    let a = c .before .before .before .before .before .before .before .before .before .before .before .before .before .before .args in
     let n = c .before .before .check-list .ensures in
-    let e = list-refused (readFieldList (now (a .s))) (λ z. c .before .if3 .taken (n ∙ z)) in
-    let turn = c .before .before .before in
-    tells-refused _ _ _ _ (not-a-list (now (a .m)) (a .stream) (a .part) (now (a .s)) (now (a .out)) (formed (turn .before .before .before)) (due turn) _ e) _
+    let e = list-refused (readFieldList (now (a .s))) (λ z. c .before .if2 .taken (n ∙ z)) in
+    tells-refused _ _ _ _ (not-a-list (now (a .m)) (a .stream) (a .part) (now (a .s)) (now (a .out)) (formed (c .before .before .before .before .before .before .before .before)) (named-turn (named (c .before .before .before))) _ e) _
     (c .refused3 .ensures ∙ ap refusal n)
 
 give-requires : tie.Need-give-requires
 give-requires c κs =
-    let list = c .before .before .before in
-    let turn = list .before in
-    ((formed (turn .before .before .before), due turn), checked (now (start (turn .before) .args .s)) (sym (list .check-list .ensures) ∙ c .before .before .if3 .left))
+    ((formed (c .before .before .before .before .before .before .before .before .before), named (c .before .before .before .before) .turn), checked (now (c .before .before .before .before .before .before .before .before .before .before .before .before .before .before .before .args .s)) (sym (c .before .before .before .check-list .ensures) ∙ c .before .before .if2 .left))
 
 same-length-4 : tie.Need-same-length-4
 same-length-4 c = search needs
@@ -99,7 +101,10 @@ same-length-5 : tie.Need-same-length-5
 same-length-5 c = search needs
 
 returns-4 : tie.Need-returns-4
-returns-4 c = search needs
+returns-4 c =
+    let a = c .before .before .before .before .before .before .before .before .before .before .before .before .before .before .before .before .before .before .before .before .args in
+    let g = named (c .before .before .before .before .before .before .before .before .before) in
+    same-call (now (a .m)) (a .stream) _ (a .part) _ (now (a .s)) (now (a .out)) (g .stream) (g .number) _ _ _ (c .before .before .before .before .give .ensures)
 
 pub block-spec : {M : Type 1} → statement M
 block-spec =
@@ -109,7 +114,9 @@ block-spec =
     refused-requires
     same-length
     returns
-    in-turn-requires
+    turn-of-requires
+    enum-known-turn
+    enum-told
     refused-requires-2
     same-length-2
     returns-2

@@ -6,9 +6,10 @@ use native.Mathlib.Omega.{arith}
 use lib.ListN.{length}
 use Rattle.memory.specs.Bytes.{overlay}
 use Rattle.blocks.specs.Representation.{blockWire}
+use Rattle.parts.specs.Turn.{partIn}
 use Rattle.encoder_fields.specs.Measure.{representationsOf}
 use Rattle.encoder_fields.specs.Refer.{entered}
-use Rattle.encoder_block.proofs.Giving.{tells-kept, Ready, its-turn, long-memory, not-fitting, fitting, still-forms, still-room, still-passed}
+use Rattle.encoder_block.proofs.Giving.{marks-low, tells-kept, Ready, its-turn, long-memory, not-fitting, fitting, still-forms, still-room, still-passed}
 use Rattle.encoder_block.proofs.Giving.{refers-length, gives}
 use borrow.Author.Needs.{needs}
 use Rattle.encoder_block.proofs.block.give.Statement.{statement}
@@ -17,7 +18,7 @@ use Rattle.encoder_block.proofs.block.give.Tie as tie
 abbrev start : tie.After-slice-known2 → tie.Start
 start c = c .before .before .before
 
-ready : (c : tie.After-slice-known2) → Ready (now (start c .args .m)) (start c .args .stream) (start c .args .part) (now (start c .args .s))
+ready : (c : tie.After-slice-known2) → Ready (now (start c .args .m)) (start c .args .stream .value) (partIn (start c .args .part)) (now (start c .args .s))
 ready c = record {
   small = λ k. omega (arith, c .before .before .slice-known .given k);
   forms = start c .pre .0 .0;
@@ -36,16 +37,13 @@ passed : (c : tie.After-write-list)
     → let a = start (c .before .before .before .before .before .before .before .before .before .before .before) .args in
     let rs = representationsOf (now (a .m)) (now (a .s)) in
     (c .write-list .result ≡ length (blockWire rs))
-    × ((c .write-list .last .0 ≡ entered (now (a .m)) (a .stream) (a .part) rs) × (c .write-list .last .1 .1 .1 .1 .0 ≡ overlay (now (a .out)) 0 (blockWire rs)))
+    × ((c .write-list .last .0 ≡ entered (now (a .m)) (a .stream .value) (partIn (a .part)) rs) × (c .write-list .last .1 .1 .1 .1 .0 ≡ overlay (now (a .out)) 0 (blockWire rs)))
 passed c =
     let kept = c .before .before .before .before .before .before .before .before .room-answer .ensures .1 in
     still-passed (ready (c .before .before .before .before .before .before .before .before .before .before .before)) (now (start (c .before .before .before .before .before .before .before .before .before .before .before) .args .out)) _ _ (kept .0) (kept .1) (room (c .before .before .before) .0) _ _ _ (c .write-list .ensures)
 
-cast-t9 : tie.Need-cast-t9
-cast-t9 c = omega (arith, its-turn (ready c) .below)
-
 room-answer-requires : tie.Need-room-answer-requires
-room-answer-requires c κs = ((start (c .before .before) .pre .0 .0, its-turn (ready (c .before .before)) .below), start (c .before .before) .pre .1)
+room-answer-requires c κs = ((start (c .before .before) .pre .0 .0, its-turn (ready (c .before .before)) .0), start (c .before .before) .pre .1)
 
 refused-requires : tie.Need-refused-requires
 refused-requires c κs = search needs
@@ -66,17 +64,17 @@ write-list-requires c κs =
     let r = ready (c .before .before .before .before .before .before .before .before .before .before) in
     let out = now (start (c .before .before .before .before .before .before .before .before .before .before) .args .out) in
     let kept = c .before .before .before .before .before .before .before .room-answer .ensures .1 in
-    ((still-forms r out _ _ (kept .0) (kept .1), its-turn r .below), (start (c .before .before .before .before .before .before .before .before .before .before) .pre .1, λ e. still-room r out _ _ (kept .0) (kept .1) (room (c .before .before))))
+    ((still-forms r out _ _ (kept .0) (kept .1), its-turn r .0), (start (c .before .before .before .before .before .before .before .before .before .before) .pre .1, λ e. still-room r out _ _ (kept .0) (kept .1) (room (c .before .before))))
 
 marks-place-requires : tie.Need-marks-place-requires
-marks-place-requires c κs = its-turn (ready (c .before .before .before .before .before .before .before .before .before .before .before .before .before .before .before .before)) .low
+marks-place-requires c κs = search needs
 
 clear-requires : tie.Need-clear-requires
 clear-requires c κs =
     let r = ready (c .before .before .before .before .before .before .before .before .before .before .before .before .before .before .before .before .before) in
     let fits = room (c .before .before .before .before .before .before .before .before .before) in
     let same = refers-length r (now (start (c .before .before .before .before .before .before .before .before .before .before .before .before .before .before .before .before .before) .args .out)) (fits .0) (fits .1) _ (passed (c .before .before .before .before .before .before) .1 .0) in
-    (its-turn r .below, omega (arith, c .marks-place .ensures, its-turn r .low, long-memory r, same))
+    (its-turn r .0, omega (arith, c .marks-place .ensures, marks-low (partIn (start (c .before .before .before .before .before .before .before .before .before .before .before .before .before .before .before .before .before) .args .part)), long-memory r, same))
 
 cast-done : tie.Need-cast-done
 cast-done c = omega (arith, passed (c .before .before .before .before .before .before .before .before .before) .0, room (c .before .before .before .before .before .before .before .before .before .before .before .before) .0)
@@ -101,7 +99,6 @@ pub give-spec : {M : Type 1} → statement M
 give-spec =
     tie.close
     (tie.spec
-    cast-t9
     room-answer-requires
     refused-requires
     same-length

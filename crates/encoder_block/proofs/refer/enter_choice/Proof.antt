@@ -1,6 +1,7 @@
 -- `enter_choice` meets its contract, by the cases of the choice.
 use denote.Ref.{now}
 use mathlib.Core.Path.{sym, ap, subst, _∙_}
+use Rattle.parts.specs.Turn.{partIn}
 use Rattle.encoder_fields.specs.Refer.{enteredChoice, InTable}
 use borrow.Author.Needs.{needs}
 use Rattle.encoder_block.proofs.refer.enter_choice.Statement.{statement}
@@ -31,7 +32,7 @@ same-length c = search needs
 returns : tie.Need-returns
 returns c =
     let a = c .before .before .before .before .before .before .before .before .args in
-    c .before .before .enter .ensures ∙ ap (enteredChoice (now (a .m)) (a .stream .value) (a .part)) (sym (c .before .before .before .before .before .choice .given .1))
+    c .before .before .enter .ensures ∙ ap (enteredChoice (now (a .m)) (a .stream .value) (partIn (a .part))) (sym (c .before .before .before .before .before .choice .given .1))
 
 same-length-2 : tie.Need-same-length-2
 same-length-2 c = search needs
@@ -39,12 +40,12 @@ same-length-2 c = search needs
 returns-2 : tie.Need-returns-2
 returns-2 c =
     let a = c .before .before .before .before .before .before .before .before .args in
-    c .before .before .enter2 .ensures ∙ ap (enteredChoice (now (a .m)) (a .stream .value) (a .part)) (sym (c .before .before .before .before .before .choice2 .given .1))
+    c .before .before .enter2 .ensures ∙ ap (enteredChoice (now (a .m)) (a .stream .value) (partIn (a .part))) (sym (c .before .before .before .before .before .choice2 .given .1))
 
 returns-3 : tie.Need-returns-3
 returns-3 c =
     let a = c .before .before .before .args in
-    ap (enteredChoice (now (a .m)) (a .stream .value) (a .part)) (sym (c .enum-told .given .1))
+    ap (enteredChoice (now (a .m)) (a .stream .value) (partIn (a .part))) (sym (c .enum-told .given .1))
 
 pub enter-choice-spec : {M : Type 1} → statement M
 enter-choice-spec =

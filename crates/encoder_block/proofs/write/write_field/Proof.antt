@@ -1,7 +1,7 @@
 -- `write_field` meets its contract: the choice measured, or its reference entered and its bytes written.
 use denote.Ref.{now}
 use Prim.Native.Nat.{ℕ, _+_, _≤_}
-use mathlib.Core.Path.{_≡_, sym, ap, subst, _∙_}
+use mathlib.Core.Path.{sym, ap, subst, _∙_}
 use native.Mathlib.Omega.{arith}
 use mathlib.Core.List.{List}
 use lib.ListN.{length}
@@ -13,6 +13,7 @@ use Rattle.fields.specs.Reading.{fieldOf}
 use Rattle.blocks.specs.Representation.{Representation, representationWire}
 use Rattle.model.specs.Encoder.{choose}
 use Rattle.state.specs.EncoderState.{encoderOf}
+use Rattle.parts.specs.Turn.{partIn}
 use Rattle.encoder_fields.specs.Refer.{enteredBy}
 use Rattle.encoder_fields.proofs.Fields.{field-fine}
 use Rattle.encoder_block.proofs.Entering.{entered-choice}
@@ -34,7 +35,7 @@ fine c = field-fine _ _ (start c .pre .1 .0)
 abbrev refers : tie.After-choose-field → List ℕ
 refers c =
     let a = start c .args in
-    enteredBy (now (a .m)) (a .stream .value) (a .part) (choose (encoderOf (now (a .m)) .entries) (fieldOf (now (a .s)) (a .f)))
+    enteredBy (now (a .m)) (a .stream .value) (partIn (a .part)) (choose (encoderOf (now (a .m)) .entries) (fieldOf (now (a .s)) (a .f)))
 
 abbrev writes : tie.After-choose-field → List ℕ
 writes c =
@@ -69,7 +70,7 @@ enter-choice-requires c κs =
     let p = start chose .pre .0 in
     let e = chose .choose-field .ensures in (
       (p .1, choice-long _ (small chose) (p .0) _ (fine chose) (chose .choose-field .result) e),
-      choice-low _ (small chose) (p .0) _ (fine chose) (chose .choose-field .result) e _ (p .1) (start chose .args .part),
+      choice-low _ (small chose) (p .0) _ (fine chose) (chose .choose-field .result) e _ (p .1) (partIn (start chose .args .part)),
     )
 
 write-choice-requires : tie.Need-write-choice-requires
@@ -99,8 +100,8 @@ returns-2 c =
       wrote .0 ∙ ap (λ (r : Representation). a .at + length (representationWire r)) e,
       (
         c .before .before .before .before .before .before .enter-choice .ensures
-            ∙ entered-choice (now (a .m)) (a .stream .value) (a .part) (fieldOf (now (a .s)) (a .f)) (chose .choose-field .result)
-            ∙ ap (enteredBy (now (a .m)) (a .stream .value) (a .part)) e
+            ∙ entered-choice (now (a .m)) (a .stream .value) (partIn (a .part)) (fieldOf (now (a .s)) (a .f)) (chose .choose-field .result)
+            ∙ ap (enteredBy (now (a .m)) (a .stream .value) (partIn (a .part))) e
             ∙ sym (pick-true (a .write) (refers chose) (now (a .m)) written),
         wrote .1 ∙ ap (λ (r : Representation). overlay (now (a .out)) (a .at) (representationWire r)) e ∙ sym (pick-true (a .write) (writes chose) (now (a .out)) written),
       ),

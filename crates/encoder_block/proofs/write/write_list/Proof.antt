@@ -6,6 +6,7 @@ use native.Mathlib.Omega.{arith}
 use lib.ListN.{length}
 use Rattle.memory.specs.Bytes.{Small}
 use Rattle.fields.proofs.Bounds.{field-bounds}
+use Rattle.parts.specs.Turn.{partIn}
 use Rattle.encoder_fields.proofs.Fields.{left-reads, left-more, in-field, field-fine}
 use Rattle.encoder_block.proofs.Writing.{Progress, progress-none, progress-forms, progress-length, progress-all, progress-room, progress-more, progress-long}
 use Rattle.encoder_block.proofs.Writing.{Passed, passed-memory, passed-output}
@@ -14,7 +15,7 @@ use Rattle.encoder_block.proofs.write.write_list.Statement.{statement}
 use Rattle.encoder_block.proofs.write.write_list.Tie as tie
 
 abbrev Inv-loop : tie.InvT-loop
-Inv-loop m₀ stream part s out₀ write to₀ at₀ m out to at = Progress m₀ (stream .value) part s out₀ write m out to at
+Inv-loop m₀ stream part s out₀ write to₀ at₀ m out to at = Progress m₀ (stream .value) (partIn part) s out₀ write m out to at
 
 abbrev μ-loop : tie.MeasureT-loop
 μ-loop m₀ stream part s out₀ write to₀ at₀ m out to at = length s - at
@@ -29,7 +30,7 @@ small c k = omega (arith, c .before .before .before .slice-known .given k)
 long : (c : tie.Then1 Inv-loop μ-loop)
     → let wrote = c .before .before .before .before .before in
     let a = start (wrote .before .before .before .before .before) .args in
-    Passed (now (a .m)) (a .stream .value) (a .part) (now (a .s)) (now (a .out)) (a .write) 16385 (wrote .write-field .last .0) (wrote .write-field .last .1 .1 .1 .1 .1 .0)
+    Passed (now (a .m)) (a .stream .value) (partIn (a .part)) (now (a .s)) (now (a .out)) (a .write) 16385 (wrote .write-field .last .0) (wrote .write-field .last .1 .1 .1 .1 .1 .0)
 long c =
     let wrote = c .before .before .before .before .before in
     let read = wrote .before .before .before in
@@ -64,14 +65,14 @@ same-length c =
     let l = c .before .before .before .before .before .before .before .before .before .before in
     let a = start l .args in
     let p = start l .pre in
-    passed-memory _ (small l) (p .0 .0) _ (p .0 .1) (a .part) (now (a .s)) (now (a .out)) (a .write) _ _ _ (long c)
+    passed-memory _ (small l) (p .0 .0) _ (p .0 .1) (partIn (a .part)) (now (a .s)) (now (a .out)) (a .write) _ _ _ (long c)
 
 same-length-2 : tie.Need-same-length-2 Inv-loop μ-loop
 same-length-2 c =
     let l = c .before .before .before .before .before .before .before .before .before .before in
     let a = start l .args in
     let p = start l .pre in
-    passed-output _ (small l) (p .0 .0) _ (p .0 .1) (a .part) (now (a .s)) (now (a .out)) (a .write) _ _ _ (long c)
+    passed-output _ (small l) (p .0 .0) _ (p .0 .1) (partIn (a .part)) (now (a .s)) (now (a .out)) (a .write) _ _ _ (long c)
 
 returns : tie.Need-returns Inv-loop μ-loop
 returns c = long c

@@ -1,10 +1,13 @@
 -- `encoder::insert::insert` meets its contract: each way out is one law of `Inserting`; past the tests the entry fits.
 use mathlib.Core.Path.{_≡_, refl, sym, _∙_}
 use mathlib.Core.Bool.{true}
+use Prim.Native.Nat.{_+_, _≤_}
+use lib.ListN.{length}
 use native.Mathlib.Omega.{arith}
-use borrow.Author.Tests.{not-true, not-false}
+use borrow.Author.Tests.{not-true, not-false, leb-true, leb-false}
 use borrow.Author.Needs.{needs}
 use Rattle.memory.specs.Bytes.{Small}
+use Rattle.state.specs.Layout.{limitOf, heldOf}
 use Rattle.state.specs.Forms.{formsEncoder}
 use Rattle.encoder_insert.specs.Steps.{Fitting}
 use Rattle.encoder.proofs.Leaving.{answer-of, memory-of, output-of}
@@ -22,17 +25,22 @@ forms c = sym (c .before .forms-encoder .ensures) ∙ not-false _ (c .if1 .left)
 
 -- past the last test the entry fits
 abbrev start : tie.Else5 → tie.Start
-start c = c .before .before .before .before .before .before .before .before .before .before .before .before .before .before .before .before .before
+start c = c .before .before .before .before .before .before .before .before .before .before .before .before .before .before .before
+
+-- past the test of the limit the entry keeps it
+fitted : (l : tie.Else4) → let a = l .before .before .before .before .before .before .before .before .before .before .before .before .args in
+    heldOf (a .m .now) + (length (a .name .now) + length (a .value .now) + 32) ≤ limitOf (a .m .now)
+fitted l = leb-true _ _ (sym (l .before .fits2 .ensures) ∙ not-false _ (l .if4 .left))
 
 fitting : (c : tie.Else5) → Fitting (start c .args .m .now) (start c .args .name .now) (start c .args .value .now)
 fitting c =
     let l = c .before .before .before in
-    let t = l .before .before .before .before .before in
+    let t = l .before .before .before in
     record {
       name-short = t .before .if2 .left;
       value-short = t .if3 .left;
-      limit = omega (arith, l .if4 .left, l .before .u16-at2 .ensures, l .before .before .before .u16-at .ensures);
-      few = omega (arith, c .if5 .left, c .before .u16-at3 .ensures);
+      limit = fitted l;
+      few = omega (arith, c .if5 .left, c .before .count-of .ensures);
     }
 
 forms-encoder-requires : tie.Need-forms-encoder-requires
@@ -85,20 +93,10 @@ add-size c = search needs
 add-size-2 : tie.Need-add-size-2
 add-size-2 c = search needs
 
-u16-at-requires : tie.Need-u16-at-requires
-u16-at-requires c κs = let t = c .before .before .before in omega (arith, long _ (small (t .before .before .before .before .before .before)) (forms t))
-
-cast-if4 : tie.Need-cast-if4
-cast-if4 c = search needs
-
-u16-at-requires-2 : tie.Need-u16-at-requires-2
-u16-at-requires-2 c κs = let t = c .before .before .before .before .before in omega (arith, long _ (small (t .before .before .before .before .before .before)) (forms t))
-
-cast-if4-2 : tie.Need-cast-if4-2
-cast-if4-2 c = search needs
-
-add-if4 : tie.Need-add-if4
-add-if4 c = search needs
+fits-requires : tie.Need-fits-requires
+fits-requires c κs =
+    let t = c .before .before .before in
+    (omega (arith, long _ (small (t .before .before .before .before .before .before)) (forms t)), omega arith)
 
 refused-requires-4 : tie.Need-refused-requires-4
 refused-requires-4 c κs = search needs
@@ -108,17 +106,18 @@ same-length-4 c = search needs
 
 returns-4 : tie.Need-returns-4
 returns-4 c =
-    let v = c .before .before .before .before .before .before in
+    let v = c .before .before .before .before in
     let t = v .before .before in
     let s = t .before .before .before .before .before .before in
     let a = s .before .args in
-    let e = insert-over (a .m .now) (small s) (forms t) (a .name .now) (a .value .now) (a .out .now) (v .before .if2 .left) (v .if3 .left)
-    (omega (arith, c .before .if4 .taken, c .before .before .u16-at2 .ensures, c .before .before .before .before .u16-at .ensures)) in
+    let over = leb-false (heldOf (a .m .now) + (length (a .name .now) + length (a .value .now) + 32)) (limitOf (a .m .now))
+    (sym (c .before .before .fits2 .ensures) ∙ not-true _ (c .before .if4 .taken)) in
+    let e = insert-over (a .m .now) (small s) (forms t) (a .name .now) (a .value .now) (a .out .now) (v .before .if2 .left) (v .if3 .left) over in
     (answer-of e (c .refused4 .ensures), (memory-of e refl, output-of e refl))
 
-u16-at-requires-3 : tie.Need-u16-at-requires-3
-u16-at-requires-3 c κs =
-    let t = c .before .before .before .before .before .before .before .before in
+count-of-requires : tie.Need-count-of-requires
+count-of-requires c κs =
+    let t = c .before .before .before .before .before .before in
     omega (arith, long _ (small (t .before .before .before .before .before .before)) (forms t))
 
 cast-if5 : tie.Need-cast-if5
@@ -133,17 +132,17 @@ same-length-5 c = search needs
 returns-5 : tie.Need-returns-5
 returns-5 c =
     let l = c .before .before .before .before in
-    let v = l .before .before .before .before .before in
+    let v = l .before .before .before in
     let t = v .before .before in
     let s = t .before .before .before .before .before .before in
     let a = s .before .args in
     let e = insert-full (a .m .now) (small s) (forms t) (a .name .now) (a .value .now) (a .out .now) (v .before .if2 .left) (v .if3 .left)
-    (omega (arith, l .if4 .left, l .before .u16-at2 .ensures, l .before .before .before .u16-at .ensures))
-    (omega (arith, c .before .if5 .taken, c .before .before .u16-at3 .ensures)) in
+    (fitted l)
+    (omega (arith, c .before .if5 .taken, c .before .before .count-of .ensures)) in
     (answer-of e (c .refused5 .ensures), (memory-of e refl, output-of e refl))
 
 insert-fitting-requires : tie.Need-insert-fitting-requires
-insert-fitting-requires c κs = let p = c .before .before in (forms (p .before .before .before .before .before .before .before .before .before .before), fitting p)
+insert-fitting-requires c κs = let p = c .before .before in (forms (p .before .before .before .before .before .before .before .before), fitting p)
 
 same-length-6 : tie.Need-same-length-6
 same-length-6 c = search needs
@@ -154,7 +153,7 @@ same-length-7 c = search needs
 returns-6 : tie.Need-returns-6
 returns-6 c =
     let p = c .before .before .before .before .before .before .before in
-    let t = p .before .before .before .before .before .before .before .before .before .before in
+    let t = p .before .before .before .before .before .before .before .before in
     let s = t .before .before .before .before .before .before in
     let a = s .before .args in
     let e = insert-fitting (a .m .now) (small s) (forms t) (a .name .now) (a .value .now) (a .out .now) (fitting p) in
@@ -177,15 +176,11 @@ insert-spec =
     returns-3
     add-size
     add-size-2
-    u16-at-requires
-    cast-if4
-    u16-at-requires-2
-    cast-if4-2
-    add-if4
+    fits-requires
     refused-requires-4
     same-length-4
     returns-4
-    u16-at-requires-3
+    count-of-requires
     cast-if5
     refused-requires-5
     same-length-5

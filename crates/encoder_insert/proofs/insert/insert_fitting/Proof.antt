@@ -5,16 +5,18 @@ use native.Mathlib.Omega.{arith}
 use lib.ListN.{length}
 use borrow.Author.Needs.{needs}
 use Rattle.memory.specs.Bytes.{Small}
+use Rattle.integers.specs.declared.number.TableIndex.{TableIndex}
 use Rattle.wire.specs.Name.{indexed, literal}
 use Rattle.instructions.specs.Instruction.{insert, instructionWire}
 use Rattle.model.specs.Encoder.{chooseName}
 use Rattle.state.specs.Layout.{heldOf, countOf}
 use Rattle.state.specs.EncoderState.{encoderOf}
+use Rattle.state_laws.proofs.EncoderLaws.{encoder-laws}
 use Rattle.sizes.proofs.Lengths.{insert-index-size, insert-text-size}
-use Rattle.encoder_insert.specs.Steps.{chosenName}
+use Rattle.encoder_fields.specs.Naming.{chosenName}
+use Rattle.encoder_fields.proofs.Chosen.{index-known}
 use Rattle.encoder.proofs.Leaving.{answer-of, memory-of, output-of}
 use Rattle.encoder.proofs.Standing.{changes}
-use Rattle.encoder_insert.proofs.Naming.{choice-sayable}
 use Rattle.encoder_insert.proofs.Inserting.{fitting-held, fitting-place, fitting-short, fitting-done}
 use Rattle.encoder_insert.proofs.insert.insert_fitting.Statement.{statement}
 use Rattle.encoder_insert.proofs.insert.insert_fitting.Tie as tie
@@ -22,7 +24,7 @@ use Rattle.encoder_insert.proofs.insert.insert_fitting.Tie as tie
 small : (c : tie.After-slice-known) → Small (c .before .args .m .now)
 small c k = omega (arith, c .slice-known .given k)
 
--- the place found is one of the table's
+-- the place found is one of the table's, and the new index is its own
 place-low : (c : tie.After-lowest-vacant) → c .lowest-vacant .result < 128
 place-low c =
     let s = c .before .before .before .before .before .before .before in
@@ -32,6 +34,9 @@ place-low c =
       c .lowest-vacant .ensures,
       fitting-place (a .m .now) (small s) (s .before .pre .0) (a .name .now) (a .value .now) (a .out .now) (s .before .pre .1),
     )
+
+index : (c : tie.After-new) → c .new .result .value ≡ 62 + c .before .lowest-vacant .result
+index c = ap (λ (i : TableIndex). i .value) (c .new .ensures)
 
 -- the room that an entry takes
 held : (c : tie.After-slice-known)
@@ -44,34 +49,24 @@ few : (c : tie.After-slice-known) → countOf (c .before .args .m .now) < 128
 few c = let f = c .before .pre .1 .few in omega arith
 
 -- the name chosen is the model's, by index or by bytes
-abbrev by-index-start : tie.After-known-told → tie.Start
-by-index-start c = c .before .before .before .before .before .before .before .before .before .before .before
-
 by-index : (c : tie.After-known-told)
-    → indexed (c .before .choice .given .0 .0 .value) ≡ chooseName (encoderOf (by-index-start c .args .m .now) .entries) (by-index-start c .args .name .now)
-by-index c = sym (ap (chosenName (by-index-start c .args .name .now)) (c .before .choice .given .1)) ∙ c .before .before .before .before .before .choose-name .ensures
-
-abbrev by-bytes-start : tie.After-enum-told → tie.Start
-by-bytes-start c = c .before .before .before .before .before .before .before .before .before .before
+    → indexed (c .before .choice .given .0 .0 .value) ≡ chooseName (encoderOf (c .before .before .before .before .before .before .before .before .before .before .before .before .args .m .now) .entries) (c .before .before .before .before .before .before .before .before .before .before .before .before .args .name .now)
+by-index c = sym (ap (chosenName (c .before .before .before .before .before .before .before .before .before .before .before .before .args .name .now)) (c .before .choice .given .1)) ∙ c .before .before .before .before .before .before .choose-name .ensures
 
 by-bytes : (c : tie.After-enum-told)
-    → literal (by-bytes-start c .args .name .now) ≡ chooseName (encoderOf (by-bytes-start c .args .m .now) .entries) (by-bytes-start c .args .name .now)
-by-bytes c = sym (ap (chosenName (by-bytes-start c .args .name .now)) (c .enum-told .given .1)) ∙ c .before .before .before .before .choose-name .ensures
+    → literal (c .before .before .before .before .before .before .before .before .before .before .before .args .name .now) ≡ chooseName (encoderOf (c .before .before .before .before .before .before .before .before .before .before .before .args .m .now) .entries) (c .before .before .before .before .before .before .before .before .before .before .before .args .name .now)
+by-bytes c = sym (ap (chosenName (c .before .before .before .before .before .before .before .before .before .before .before .args .name .now)) (c .enum-told .given .1)) ∙ c .before .before .before .before .before .choose-name .ensures
 
 -- the size is the length of what is written
 index-size : (c : tie.After-insert-index-size)
     → c .insert-index-size .result
-    ≡ length (instructionWire (insert (62 + c .before .before .before .before .lowest-vacant .result) (indexed (c .before .before .choice .given .0 .0 .value))
-    (by-index-start (c .before) .args .value .now)))
-index-size c = c .insert-index-size .ensures .0 ∙ sym (insert-index-size _ _ (by-index-start (c .before) .args .value .now))
+    ≡ length (instructionWire (insert (c .before .before .before .before .new .result .value) (indexed (c .before .before .choice .given .0 .0 .value)) (c .before .before .before .before .before .before .before .before .before .before .before .before .before .args .value .now)))
+index-size c = c .insert-index-size .ensures .0 ∙ sym (insert-index-size _ _ (c .before .before .before .before .before .before .before .before .before .before .before .before .before .args .value .now))
 
 text-size : (c : tie.After-insert-text-size)
     → c .insert-text-size .result
-    ≡ length (instructionWire (insert (62 + c .before .before .before .lowest-vacant .result) (literal (by-bytes-start (c .before) .args .name .now))
-    (by-bytes-start (c .before) .args .value .now)))
-text-size c =
-    let a = by-bytes-start (c .before) .args in
-    c .insert-text-size .ensures .0 ∙ sym (insert-text-size _ (a .name .now) (a .value .now))
+    ≡ length (instructionWire (insert (c .before .before .before .new .result .value) (literal (c .before .before .before .before .before .before .before .before .before .before .before .before .args .name .now)) (c .before .before .before .before .before .before .before .before .before .before .before .before .args .value .now)))
+text-size c = c .insert-text-size .ensures .0 ∙ sym (insert-text-size _ (c .before .before .before .before .before .before .before .before .before .before .before .before .args .name .now) (c .before .before .before .before .before .before .before .before .before .before .before .before .args .value .now))
 
 choose-name-requires : tie.Need-choose-name-requires
 choose-name-requires c κs = search needs
@@ -79,11 +74,14 @@ choose-name-requires c κs = search needs
 lowest-vacant-requires : tie.Need-lowest-vacant-requires
 lowest-vacant-requires c κs = let s = c .before .before .before .before .before .before in changes _ (small s) (s .before .pre .0) .ordered
 
-cast-t15 : tie.Need-cast-t15
-cast-t15 c = omega (arith, place-low c)
+cast-new : tie.Need-cast-new
+cast-new c = omega (arith, place-low c)
 
-add-t16 : tie.Need-add-t16
-add-t16 c = omega (arith, place-low c)
+add-new : tie.Need-add-new
+add-new c = omega (arith, place-low c)
+
+new-requires : tie.Need-new-requires
+new-requires c κs = (omega arith, omega (arith, place-low c))
 
 enum-known-choice : tie.Need-enum-known-choice
 enum-known-choice c = search needs
@@ -99,29 +97,30 @@ same-length c = search needs
 
 returns : tie.Need-returns
 returns c =
-    let f = c .before .before .before .before .before .before in
-    let v = f .lowest-vacant in
-    let s = f .before .before .before .before .before .before .before in
+    let i = c .before .before .before .before .before .before in
+    let v = i .before .lowest-vacant in
+    let s = i .before .before .before .before .before .before .before .before in
     let a = s .before .args in
-    let e = fitting-short (a .m .now) (small s) (s .before .pre .0) (a .name .now) (a .value .now) (a .out .now) (v .result) (62 + v .result) (v .ensures) refl
-    _ (by-index (c .before .before .before)) _ (index-size (c .before .before)) (c .before .if1 .taken) in
+    let e = fitting-short (a .m .now) (small s) (s .before .pre .0) (a .name .now) (a .value .now) (a .out .now) (v .result) (i .new .result .value) (v .ensures)
+    (index i) _ (by-index (c .before .before .before)) _ (index-size (c .before .before)) (c .before .if1 .taken) in
     (answer-of e (c .refused .ensures), (memory-of e refl, output-of e refl))
 
 write-insert-index-requires : tie.Need-write-insert-index-requires
 write-insert-index-requires c κs =
-    let f = c .before .before .before .before .before .before in
-    let low = place-low f in
-    let s = f .before .before .before .before .before .before .before in
-    let j = choice-sayable _ (small s) (s .before .pre .0) _ _ (by-index (c .before .before .before)) in (
-      ((omega arith, omega arith), (j .0, omega (arith, j .1)), s .before .pre .1 .value-short),
+    let i = c .before .before .before .before .before .before in
+    let low = place-low (i .before) in
+    let s = i .before .before .before .before .before .before .before .before in
+    let f = s .before .pre .1 in
+    let j = index-known _ (encoder-laws .fits _ (small s) (s .before .pre .0) .forms) _ (f .name-short) _ (by-index (c .before .before .before)) in (
+      ((omega (arith, index i), omega (arith, index i)), (j .0, omega (arith, j .1)), f .value-short),
       omega (arith, index-size (c .before .before), c .before .if1 .left),
     )
 
 enter-requires : tie.Need-enter-requires
 enter-requires c κs =
-    let f = c .before .before .before .before .before .before .before .before .before .before in
-    let s = f .before .before .before .before .before .before .before in
-    ((f .lowest-vacant .ensures, refl, s .before .pre .0), (held s, few s))
+    let i = c .before .before .before .before .before .before .before .before .before .before in
+    let s = i .before .before .before .before .before .before .before .before in
+    ((i .before .lowest-vacant .ensures, index i, s .before .pre .0), (held s, few s))
 
 cast-done : tie.Need-cast-done
 cast-done c = search needs
@@ -143,25 +142,26 @@ same-length-2 c = search needs
 
 returns-2 : tie.Need-returns-2
 returns-2 c =
-    let f = c .before .before .before .before .before in
-    let v = f .lowest-vacant in
-    let s = f .before .before .before .before .before .before .before in
+    let i = c .before .before .before .before .before in
+    let v = i .before .lowest-vacant in
+    let s = i .before .before .before .before .before .before .before .before in
     let a = s .before .args in
-    let e = fitting-short (a .m .now) (small s) (s .before .pre .0) (a .name .now) (a .value .now) (a .out .now) (v .result) (62 + v .result) (v .ensures) refl
-    _ (by-bytes (c .before .before .before)) _ (text-size (c .before .before)) (c .before .if2 .taken) in
+    let e = fitting-short (a .m .now) (small s) (s .before .pre .0) (a .name .now) (a .value .now) (a .out .now) (v .result) (i .new .result .value) (v .ensures)
+    (index i) _ (by-bytes (c .before .before .before)) _ (text-size (c .before .before)) (c .before .if2 .taken) in
     (answer-of e (c .refused2 .ensures), (memory-of e refl, output-of e refl))
 
 write-insert-text-requires : tie.Need-write-insert-text-requires
 write-insert-text-requires c κs =
-    let f = c .before .before .before .before .before .before .before .before .before .before .before .before .before .pre .1 in
-    let low = place-low (c .before .before .before .before .before) in
-    (((omega arith, omega arith), f .name-short, f .value-short), omega (arith, text-size (c .before .before), c .before .if2 .left))
+    let i = c .before .before .before .before .before in
+    let low = place-low (i .before) in
+    let f = i .before .before .before .before .before .before .before .before .before .pre .1 in
+    (((omega (arith, index i), omega (arith, index i)), f .name-short, f .value-short), omega (arith, text-size (c .before .before), c .before .if2 .left))
 
 enter-requires-2 : tie.Need-enter-requires-2
 enter-requires-2 c κs =
-    let f = c .before .before .before .before .before .before .before .before .before in
-    let s = f .before .before .before .before .before .before .before in
-    ((f .lowest-vacant .ensures, refl, s .before .pre .0), (held s, few s))
+    let i = c .before .before .before .before .before .before .before .before .before in
+    let s = i .before .before .before .before .before .before .before .before in
+    ((i .before .lowest-vacant .ensures, index i, s .before .pre .0), (held s, few s))
 
 cast-done-2 : tie.Need-cast-done-2
 cast-done-2 c = search needs
@@ -179,12 +179,12 @@ returns-3 : tie.Need-returns-3
 returns-3 c =
     let w = c .before .before .before .before .before .before .before in
     let t = w .before .before in
-    let f = t .before .before .before .before .before in
-    let v = f .lowest-vacant in
-    let s = f .before .before .before .before .before .before .before in
+    let i = t .before .before .before .before .before in
+    let v = i .before .lowest-vacant in
+    let s = i .before .before .before .before .before .before .before .before in
     let a = s .before .args in
-    let e = fitting-done (a .m .now) (small s) (s .before .pre .0) (a .name .now) (a .value .now) (a .out .now) (v .result) (62 + v .result) (v .ensures) refl
-    _ (by-index (t .before .before)) _ (index-size (t .before)) (t .if1 .left) (held s) (few s) in
+    let e = fitting-done (a .m .now) (small s) (s .before .pre .0) (a .name .now) (a .value .now) (a .out .now) (v .result) (i .new .result .value) (v .ensures)
+    (index i) _ (by-index (t .before .before)) _ (index-size (t .before)) (t .if1 .left) (held s) (few s) in
     (answer-of e (c .done .ensures), (memory-of e (c .before .before .before .enter .ensures), output-of e (w .write-insert-index .ensures .1)))
 
 same-length-5 : tie.Need-same-length-5
@@ -197,12 +197,12 @@ returns-4 : tie.Need-returns-4
 returns-4 c =
     let w = c .before .before .before .before .before .before .before in
     let t = w .before .before in
-    let f = t .before .before .before .before in
-    let v = f .lowest-vacant in
-    let s = f .before .before .before .before .before .before .before in
+    let i = t .before .before .before .before in
+    let v = i .before .lowest-vacant in
+    let s = i .before .before .before .before .before .before .before .before in
     let a = s .before .args in
-    let e = fitting-done (a .m .now) (small s) (s .before .pre .0) (a .name .now) (a .value .now) (a .out .now) (v .result) (62 + v .result) (v .ensures) refl
-    _ (by-bytes (t .before .before)) _ (text-size (t .before)) (t .if2 .left) (held s) (few s) in
+    let e = fitting-done (a .m .now) (small s) (s .before .pre .0) (a .name .now) (a .value .now) (a .out .now) (v .result) (i .new .result .value) (v .ensures)
+    (index i) _ (by-bytes (t .before .before)) _ (text-size (t .before)) (t .if2 .left) (held s) (few s) in
     (answer-of e (c .done2 .ensures), (memory-of e (c .before .before .before .enter2 .ensures), output-of e (w .write-insert-text .ensures .1)))
 
 pub insert-fitting-spec : {M : Type 1} → statement M
@@ -211,8 +211,9 @@ insert-fitting-spec =
     (tie.spec
     choose-name-requires
     lowest-vacant-requires
-    cast-t15
-    add-t16
+    cast-new
+    add-new
+    new-requires
     enum-known-choice
     insert-index-size-requires
     refused-requires

@@ -6,29 +6,29 @@ use borrow.Author.Needs.{needs}
 use Rattle.fields.proofs.read.text_start.Statement.{statement}
 use Rattle.fields.proofs.read.text_start.Tie as tie
 
-shared-slice-read-wide : tie.Need-shared-slice-read-wide
-shared-slice-read-wide c = one-inside _ _ (c .before .before .pre)
+shared-slice-read-wide-size : tie.Need-shared-slice-read-wide-size
+shared-slice-read-wide-size c = one-inside _ _ (c .before .before .pre)
 
-wide-requires : tie.Need-wide-requires
-wide-requires c κs = search needs
+wide-size-requires : tie.Need-wide-size-requires
+wide-size-requires c κs = search needs
 
 add-t8 : tie.Need-add-t8
 add-t8 c = omega (arith, one-inside _ _ (c .before .before .before .before .pre))
 
 returns : tie.Need-returns
-returns c = sym (start-one _ _ _ (c .before .wide .ensures .0) (c .if1 .taken))
+returns c = sym (start-one _ _ _ (c .before .wide-size .ensures .0) (c .if1 .taken))
 
-add-wide : tie.Need-add-wide
-add-wide c = omega (arith, one-inside _ _ (c .before .before .before .before .pre))
+add-wide-size : tie.Need-add-wide-size
+add-wide-size c = omega (arith, one-inside _ _ (c .before .before .before .before .pre))
 
-shared-slice-read-wide-2 : tie.Need-shared-slice-read-wide-2
-shared-slice-read-wide-2 c = two-inside _ _ _ (c .before .before .wide .ensures .0) (c .before .if1 .left) (c .before .before .before .before .before .pre)
+shared-slice-read-wide-size-2 : tie.Need-shared-slice-read-wide-size-2
+shared-slice-read-wide-size-2 c = two-inside _ _ _ (c .before .before .wide-size .ensures .0) (c .before .if1 .left) (c .before .before .before .before .before .pre)
 
-wide-requires-2 : tie.Need-wide-requires-2
-wide-requires-2 c κs = search needs
+wide-size-requires-2 : tie.Need-wide-size-requires-2
+wide-size-requires-2 c κs = search needs
 
 add-t9 : tie.Need-add-t9
-add-t9 c = omega (arith, two-inside _ _ _ (c .before .before .before .wide .ensures .0) (c .before .before .if1 .left) (c .before .before .before .before .before .before .pre))
+add-t9 c = omega (arith, two-inside _ _ _ (c .before .before .before .wide-size .ensures .0) (c .before .before .if1 .left) (c .before .before .before .before .before .before .pre))
 
 mul-t12 : tie.Need-mul-t12
 mul-t12 c = search needs
@@ -37,19 +37,19 @@ add-t13 : tie.Need-add-t13
 add-t13 c = search needs
 
 returns-2 : tie.Need-returns-2
-returns-2 c = sym (start-two _ _ _ (c .before .before .before .wide .ensures .0) (c .before .before .if1 .left) _ (c .wide2 .ensures .0))
+returns-2 c = sym (start-two _ _ _ (c .before .before .before .wide-size .ensures .0) (c .before .before .if1 .left) _ (c .wide-size2 .ensures .0))
 
 pub text-start-spec : {M : Type 1} → statement M
 text-start-spec =
     tie.close
     (tie.spec
-    shared-slice-read-wide
-    wide-requires
+    shared-slice-read-wide-size
+    wide-size-requires
     add-t8
     returns
-    add-wide
-    shared-slice-read-wide-2
-    wide-requires-2
+    add-wide-size
+    shared-slice-read-wide-size-2
+    wide-size-requires-2
     add-t9
     mul-t12
     add-t13

@@ -22,20 +22,16 @@ abbrev μ-loop : tie.MeasureT-loop
 loop-holds : tie.Need-loop-holds Inv-loop μ-loop
 loop-holds c = (count-first _ _ _ _, omega arith, omega arith)
 
-mul-u16-at : tie.Need-mul-u16-at Inv-loop μ-loop
-mul-u16-at c = omega arith
-
-add-u16-at : tie.Need-add-u16-at Inv-loop μ-loop
-add-u16-at c = omega arith
-
-u16-at-requires : tie.Need-u16-at-requires Inv-loop μ-loop
-u16-at-requires c κs = omega arith
+stream-at-requires : tie.Need-stream-at-requires Inv-loop μ-loop
+stream-at-requires c κs =
+    let l = c .before in
+    let low = l .before .before .pre .streams (l .loop .i) (c .loop-test .taken) in
+    (omega arith, omega arith)
 
 is-set-requires : tie.Need-is-set-requires Inv-loop μ-loop
 is-set-requires c κs =
     let l = c .before .before in
-    let low = l .before .before .pre .streams (l .loop .i) (c .before .loop-test .taken) in
-    (rw (c .u16-at .ensures) low, l .before .before .pre .marked)
+    (rw (c .stream-at .ensures) (l .before .before .pre .streams (l .loop .i) (c .before .loop-test .taken)), l .before .before .pre .marked)
 
 add-count : tie.Need-add-count Inv-loop μ-loop
 add-count c = omega arith
@@ -51,12 +47,12 @@ loop-again c =
     let l = c .before .before .before .before in
     let a = l .before .before .args in
     let g = isSet (a .m .now) (a .marks) in
-    let read = c .before .before .u16-at in
+    let read = c .before .before .stream-at in
     let more = count-more (a .m .now) g (a .k) (a .at) (l .loop .i) (read .result) (read .ensures) (c .before .before .before .loop-test .taken) in
     let marked = c .before .is-set .ensures in
     ⊎-elim
-    (λ w. omega (arith, pick-true {X = ℕ} (g (read .result)) 1 0 (sym marked ∙ w .0 .taken)))
-    (λ w. omega (arith, pick-false {X = ℕ} (g (read .result)) 1 0 (sym marked ∙ w .0 .left)))
+    (λ w. omega (arith, pick-true {X = ℕ} (g (read .result .value)) 1 0 (sym marked ∙ w .0 .taken)))
+    (λ w. omega (arith, pick-false {X = ℕ} (g (read .result .value)) 1 0 (sym marked ∙ w .0 .left)))
     (c .if1 .came)
 
 returns : tie.Need-returns Inv-loop μ-loop
@@ -72,9 +68,7 @@ listed-count-spec =
     Inv-loop
     μ-loop
     loop-holds
-    mul-u16-at
-    add-u16-at
-    u16-at-requires
+    stream-at-requires
     is-set-requires
     add-count
     add-i

@@ -5,6 +5,7 @@ use Rattle.marks.specs.Marks.{isSet}
 use Rattle.state.specs.DecoderState.{streamsAt}
 use Rattle.parts.specs.Hold.{listedLowest}
 use Rattle.parts.proofs.Reading.{lowest-first, lowest-here, lowest-more, lowest-done}
+use Rattle.parts.proofs.Telling.{stream-case, no-case}
 use Rattle.parts.proofs.hold.listed_lowest.Statement.{statement}
 use Rattle.parts.proofs.hold.listed_lowest.Tie as tie
 
@@ -20,29 +21,25 @@ abbrev μ-loop : tie.MeasureT-loop
 loop-holds : tie.Need-loop-holds Inv-loop μ-loop
 loop-holds c = (lowest-first _ _ _ _, omega arith)
 
-mul-u16-at : tie.Need-mul-u16-at Inv-loop μ-loop
-mul-u16-at c = omega arith
-
-add-u16-at : tie.Need-add-u16-at Inv-loop μ-loop
-add-u16-at c = omega arith
-
-u16-at-requires : tie.Need-u16-at-requires Inv-loop μ-loop
-u16-at-requires c κs = omega arith
+stream-at-requires : tie.Need-stream-at-requires Inv-loop μ-loop
+stream-at-requires c κs =
+    let l = c .before in
+    let low = l .before .before .pre .streams (l .loop .i) (c .loop-test .taken) in
+    (omega arith, omega arith)
 
 is-set-requires : tie.Need-is-set-requires Inv-loop μ-loop
 is-set-requires c κs =
     let l = c .before .before in
-    let low = l .before .before .pre .streams (l .loop .i) (c .before .loop-test .taken) in
-    (rw (c .u16-at .ensures) low, l .before .before .pre .marked)
-
-cast-result : tie.Need-cast-result Inv-loop μ-loop
-cast-result c = omega arith
+    (rw (c .stream-at .ensures) (l .before .before .pre .streams (l .loop .i) (c .before .loop-test .taken)), l .before .before .pre .marked)
 
 returns : tie.Need-returns Inv-loop μ-loop
 returns c =
-    let l = c .before .before .before in
-    let marked = sym (c .before .is-set .ensures) ∙ c .if1 .taken in
-    sym (lowest-here _ _ _ _ _ _ (c .before .before .u16-at .ensures) (l .loop-test .taken) marked) ∙ l .before .loop .inv .0
+    let test = c .before .before .before in
+    let l = test .before in
+    let read = c .before .before .stream-at .ensures in
+    let low = l .before .before .pre .streams (l .loop .i) (test .loop-test .taken) in
+    let here = lowest-here _ _ _ _ _ _ read (test .loop-test .taken) (sym (c .before .is-set .ensures) ∙ c .if1 .taken) in
+    sym (stream-case _ _ (sym (l .loop .inv .0) ∙ here) (rw read low))
 
 add-i : tie.Need-add-i Inv-loop μ-loop
 add-i c = omega arith
@@ -54,10 +51,10 @@ loop-again : tie.Need-loop-again Inv-loop μ-loop
 loop-again c =
     let l = c .before .before .before in
     let unmarked = sym (c .before .is-set .ensures) ∙ c .if1 .left in
-    (sym (lowest-more _ _ _ _ _ _ (c .before .before .u16-at .ensures) (l .loop-test .taken) unmarked) ∙ l .before .loop .inv .0, omega arith)
+    (sym (lowest-more _ _ _ _ _ _ (c .before .before .stream-at .ensures) (l .loop-test .taken) unmarked) ∙ l .before .loop .inv .0, omega arith)
 
 returns-2 : tie.Need-returns-2 Inv-loop μ-loop
-returns-2 c = sym (lowest-done _ _ _ _ _ (c .loop-test .left)) ∙ c .before .loop .inv .0
+returns-2 c = sym (no-case _ (sym (c .before .loop .inv .0) ∙ lowest-done _ _ _ _ _ (c .loop-test .left)))
 
 pub listed-lowest-spec : {M : Type 1} → statement M
 listed-lowest-spec =
@@ -66,11 +63,8 @@ listed-lowest-spec =
     Inv-loop
     μ-loop
     loop-holds
-    mul-u16-at
-    add-u16-at
-    u16-at-requires
+    stream-at-requires
     is-set-requires
-    cast-result
     returns
     add-i
     loop-less

@@ -1,16 +1,12 @@
 -- `run::run_lines` meets its contract. The invariant: what is still to be read lies in the input. The measure is how many line numbers are left.
-use mathlib.Core.Path.{_≡_, subst}
-use Prim.Native.Nat.{ℕ, _-_}
+use mathlib.Core.Path.{_≡_}
+use Prim.Native.Nat.{_-_}
 use native.Mathlib.Omega.{arith}
 use lib.ListN.{length}
 use borrow.Author.Needs.{needs}
-use Rattle.text_io.specs.declared.lines.Next.{Next}
-use Rattle.text_io.specs.Lines.{Inside, Placed}
+use Rattle.text_io.specs.Lines.{Inside}
 use Rattle.replay.proofs.run.run_lines.Statement.{statement}
 use Rattle.replay.proofs.run.run_lines.Tie as tie
-
-found : (n : ℕ) {x y : Next} → x ≡ y → Placed n x → Placed n y
-found n e p = subst (Placed n) e p
 
 abbrev Inv-loop : tie.InvT-loop
 Inv-loop fd input₀ decoder₀ encoder₀ output₀ text₀ reader₀ n₀ number₀ input decoder encoder output text reader n number =
@@ -27,11 +23,8 @@ new-requires c κs = tt
 loop-holds : tie.Need-loop-holds Inv-loop μ-loop
 loop-holds c = omega arith
 
-add-number : tie.Need-add-number Inv-loop μ-loop
-add-number c = omega arith
-
-next-line-requires : tie.Need-next-line-requires Inv-loop μ-loop
-next-line-requires c κs = omega arith
+run-next-requires : tie.Need-run-next-requires Inv-loop μ-loop
+run-next-requires c κs = omega arith
 
 enum-told : tie.Need-enum-told Inv-loop μ-loop
 enum-told c = search needs
@@ -54,45 +47,17 @@ same-length-5 c = omega arith
 returns : tie.Need-returns Inv-loop μ-loop
 returns c = tt
 
-enum-known-next : tie.Need-enum-known-next Inv-loop μ-loop
-enum-known-next c = search needs
+add-number : tie.Need-add-number Inv-loop μ-loop
+add-number c = omega arith
 
-not-a-call-requires : tie.Need-not-a-call-requires Inv-loop μ-loop
-not-a-call-requires c κs = tt
+told-requires : tie.Need-told-requires Inv-loop μ-loop
+told-requires c κs = tt
 
 loop-less : tie.Need-loop-less Inv-loop μ-loop
 loop-less c = omega arith
 
 loop-again : tie.Need-loop-again Inv-loop μ-loop
-loop-again c = let p = found _ (c .before .before .before .before .before .next .given .1) (c .before .before .before .before .before .before .before .before .before .next-line .ensures) in omega arith
-
-enum-known-next-2 : tie.Need-enum-known-next-2 Inv-loop μ-loop
-enum-known-next-2 c = search needs
-
-sub-run-line : tie.Need-sub-run-line Inv-loop μ-loop
-sub-run-line c = let p = found _ (c .before .next2 .given .1) (c .before .before .before .before .before .next-line .ensures) in omega arith
-
-part-run-line-start : tie.Need-part-run-line-start Inv-loop μ-loop
-part-run-line-start c = let p = found _ (c .before .before .next2 .given .1) (c .before .before .before .before .before .before .next-line .ensures) in omega arith
-
-part-run-line-end : tie.Need-part-run-line-end Inv-loop μ-loop
-part-run-line-end c = let p = found _ (c .before .before .next2 .given .1) (c .before .before .before .before .before .before .next-line .ensures) in omega arith
-
-run-line-requires : tie.Need-run-line-requires Inv-loop μ-loop
-run-line-requires c κs = tt
-
-told-requires : tie.Need-told-requires Inv-loop μ-loop
-told-requires c κs = tt
-
-loop-less-2 : tie.Need-loop-less-2 Inv-loop μ-loop
-loop-less-2 c = omega arith
-
-loop-again-2 : tie.Need-loop-again-2 Inv-loop μ-loop
-loop-again-2 c =
-    let p = found _ (c .before .before .before .before .before .before .before .before .before .before .before .before .before .before .before .before .before .before .next2 .given .1) (c .before .before .before .before .before .before .before .before .before .before .before .before .before .before .before .before .before .before .before .before .before .before .next-line .ensures) in
-    let i = c .before .before .before .before .before .before .before .before .before .before .before .before .before .before .before .before .before .before .before .before .before .before .before .before .before .loop .inv in
-    let k = c .before .before .before .before .before .before .before .before .before .before .before .before .before .before .before .before .before .before .before .before .before .input .given in
-    omega arith
+loop-again c = omega arith
 
 same-length-6 : tie.Need-same-length-6 Inv-loop μ-loop
 same-length-6 c = omega arith
@@ -120,8 +85,7 @@ run-lines-spec =
     μ-loop
     new-requires
     loop-holds
-    add-number
-    next-line-requires
+    run-next-requires
     enum-told
     same-length
     same-length-2
@@ -129,18 +93,10 @@ run-lines-spec =
     same-length-4
     same-length-5
     returns
-    enum-known-next
-    not-a-call-requires
+    add-number
+    told-requires
     loop-less
     loop-again
-    enum-known-next-2
-    sub-run-line
-    part-run-line-start
-    part-run-line-end
-    run-line-requires
-    told-requires
-    loop-less-2
-    loop-again-2
     same-length-6
     same-length-7
     same-length-8

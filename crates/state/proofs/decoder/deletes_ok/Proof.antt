@@ -1,10 +1,10 @@
 -- `state::decoder::deletes_ok` meets its contract. The loop's invariant: the answer is that for the deletes left.
 use Prim.Native.Nat.{_-_, _≤_}
-use mathlib.Core.Path.{_≡_, sym, _∙_}
+use mathlib.Core.Path.{_≡_, sym, ap, _∙_}
 use native.Mathlib.Omega.{arith}
 use borrow.Author.Tests.{not-true, not-false}
-use Rattle.state.specs.Layout.{deleteCount}
-use Rattle.state.specs.Forms.{deletesOk}
+use Rattle.state.specs.Layout.{nontrailerList, trailerList, deleteCount}
+use Rattle.state.specs.Forms.{listOk, deletesOk}
 use Rattle.state.proofs.FormsTurns.{deletes-start, deletes-nontrailer, deletes-trailer, deletes-turn, deletes-end}
 use Rattle.state.proofs.decoder.deletes_ok.Statement.{statement}
 use Rattle.state.proofs.decoder.deletes_ok.Tie as tie
@@ -15,42 +15,49 @@ Inv-loop m n k₀ k = (k ≤ n) × (deletesOk m (deleteCount m) 0 ≡ deletesOk 
 abbrev μ-loop : tie.MeasureT-loop
 μ-loop m n k₀ k = n - k
 
-u16-at-requires : tie.Need-u16-at-requires Inv-loop μ-loop
-u16-at-requires c κs = omega arith
+-- the two answers are those for the delete's lists
+first : (c : tie.After-list-ok Inv-loop μ-loop)
+    → let l = c .before .before .before in
+    listOk (l .before .before .before .args .m .now) (nontrailerList (l .loop .k)) ≡ c .list-ok .result
+first c = sym (c .list-ok .ensures ∙ ap (listOk _) (c .before .nontrailer-list .ensures))
+
+second : (c : tie.After-list-ok2 Inv-loop μ-loop)
+    → let l = c .before .before .before .before .before .before in
+    listOk (l .before .before .before .args .m .now) (trailerList (l .loop .k)) ≡ c .list-ok2 .result
+second c = sym (c .list-ok2 .ensures ∙ ap (listOk _) (c .before .trailer-list .ensures))
+
+delete-count-requires : tie.Need-delete-count-requires Inv-loop μ-loop
+delete-count-requires c κs = omega arith
 
 cast-n : tie.Need-cast-n Inv-loop μ-loop
 cast-n c = omega arith
 
 loop-holds : tie.Need-loop-holds Inv-loop μ-loop
-loop-holds c = (omega arith, deletes-start _ _ _ (c .u16-at .ensures))
+loop-holds c = (omega arith, deletes-start _ _ _ (c .delete-count .ensures))
 
-delete-place-requires : tie.Need-delete-place-requires Inv-loop μ-loop
-delete-place-requires c κs = omega arith
-
-add-list-ok : tie.Need-add-list-ok Inv-loop μ-loop
-add-list-ok c = omega arith
+nontrailer-list-requires : tie.Need-nontrailer-list-requires Inv-loop μ-loop
+nontrailer-list-requires c κs = omega arith
 
 list-ok-requires : tie.Need-list-ok-requires Inv-loop μ-loop
-list-ok-requires c κs = omega arith
+list-ok-requires c κs = (omega arith, omega arith)
 
 returns : tie.Need-returns Inv-loop μ-loop
 returns c =
-    let d = c .before .before in
-    sym (d .before .before .loop .inv .1 ∙ deletes-nontrailer _ _ _ (d .before .loop-test .taken) _ (d .delete-place .ensures)
-    (sym (c .before .list-ok .ensures) ∙ not-true _ (c .if1 .taken)))
+    let t = c .before .before .before in
+    sym (t .before .loop .inv .1 ∙ deletes-nontrailer _ _ _ (t .loop-test .taken) (first (c .before) ∙ not-true _ (c .if1 .taken)))
 
-add-list-ok-2 : tie.Need-add-list-ok-2 Inv-loop μ-loop
-add-list-ok-2 c = omega arith
+trailer-list-requires : tie.Need-trailer-list-requires Inv-loop μ-loop
+trailer-list-requires c κs = omega arith
 
 list-ok-requires-2 : tie.Need-list-ok-requires-2 Inv-loop μ-loop
-list-ok-requires-2 c κs = omega arith
+list-ok-requires-2 c κs = (omega arith, omega arith)
 
 returns-2 : tie.Need-returns-2 Inv-loop μ-loop
 returns-2 c =
-    let d = c .before .before .before .before in
-    sym (d .before .before .loop .inv .1 ∙ deletes-trailer _ _ _ (d .before .loop-test .taken) _ (d .delete-place .ensures)
-    (sym (c .before .before .before .list-ok .ensures) ∙ not-false _ (c .before .before .if1 .left))
-    (sym (c .before .list-ok2 .ensures) ∙ not-true _ (c .if2 .taken)))
+    let e = c .before .before .before in
+    let t = e .before .before .before in
+    sym (t .before .loop .inv .1 ∙ deletes-trailer _ _ _ (t .loop-test .taken) (first (e .before) ∙ not-false _ (e .if1 .left))
+    (second (c .before) ∙ not-true _ (c .if2 .taken)))
 
 add-k : tie.Need-add-k Inv-loop μ-loop
 add-k c = omega arith
@@ -60,11 +67,11 @@ loop-less c = omega arith
 
 loop-again : tie.Need-loop-again Inv-loop μ-loop
 loop-again c =
-    let d = c .before .before .before .before in (
+    let e = c .before .before .before in
+    let t = e .before .before .before in (
       omega arith,
-      d .before .before .loop .inv .1 ∙ deletes-turn _ _ _ (d .before .loop-test .taken) _ (d .delete-place .ensures)
-          (sym (c .before .before .before .list-ok .ensures) ∙ not-false _ (c .before .before .if1 .left))
-          (sym (c .before .list-ok2 .ensures) ∙ not-false _ (c .if2 .left)),
+      t .before .loop .inv .1 ∙ deletes-turn _ _ _ (t .loop-test .taken) (first (e .before) ∙ not-false _ (e .if1 .left))
+          (second (c .before) ∙ not-false _ (c .if2 .left)),
     )
 
 returns-3 : tie.Need-returns-3 Inv-loop μ-loop
@@ -76,14 +83,13 @@ deletes-ok-spec =
     (tie.spec
     Inv-loop
     μ-loop
-    u16-at-requires
+    delete-count-requires
     cast-n
     loop-holds
-    delete-place-requires
-    add-list-ok
+    nontrailer-list-requires
     list-ok-requires
     returns
-    add-list-ok-2
+    trailer-list-requires
     list-ok-requires-2
     returns-2
     add-k

@@ -19,8 +19,8 @@ head-ok-requires c κs = omega arith
 returns : tie.Need-returns
 returns c = sym (decoder-head _ (sym (c .before .head-ok .ensures) ∙ not-true _ (c .if1 .taken)))
 
-u16-at-requires : tie.Need-u16-at-requires
-u16-at-requires c κs = let h = head-good _ _ _ (headed c) in omega arith
+delete-count-requires : tie.Need-delete-count-requires
+delete-count-requires c κs = let h = head-good _ _ _ (headed c) in omega arith
 
 cast-if2 : tie.Need-cast-if2
 cast-if2 c = omega arith
@@ -49,7 +49,7 @@ forms-decoder-spec =
     (tie.spec
     head-ok-requires
     returns
-    u16-at-requires
+    delete-count-requires
     cast-if2
     returns-2
     rows-form-requires

@@ -16,14 +16,8 @@ abbrev μ-loop : tie.MeasureT-loop
 loop-holds : tie.Need-loop-holds Inv-loop μ-loop
 loop-holds c = (omega arith, streams-start _ _ _ _)
 
-mul-u16-at : tie.Need-mul-u16-at Inv-loop μ-loop
-mul-u16-at c = omega arith
-
-add-u16-at : tie.Need-add-u16-at Inv-loop μ-loop
-add-u16-at c = omega arith
-
-u16-at-requires : tie.Need-u16-at-requires Inv-loop μ-loop
-u16-at-requires c κs = omega arith
+listed-at-requires : tie.Need-listed-at-requires Inv-loop μ-loop
+listed-at-requires c κs = omega arith
 
 returns : tie.Need-returns Inv-loop μ-loop
 returns c = sym (c .before .before .before .loop .inv .1 ∙ streams-low _ _ _ _ _ (c .before .before .loop-test .taken) (omega arith))
@@ -42,7 +36,7 @@ loop-again : tie.Need-loop-again Inv-loop μ-loop
 loop-again c = (
   omega arith,
   c .before .before .before .before .loop .inv .1 ∙ streams-turn _ _ _ _ _ (c .before .before .before .loop-test .taken) (omega arith) (omega arith)
-      ∙ ap (streamsOk _ _ _) (sym (c .before .before .u16-at .ensures)),
+      ∙ ap (streamsOk _ _ _) (sym (c .before .before .listed-at .ensures)),
 )
 
 returns-3 : tie.Need-returns-3 Inv-loop μ-loop
@@ -55,9 +49,7 @@ streams-ok-spec =
     Inv-loop
     μ-loop
     loop-holds
-    mul-u16-at
-    add-u16-at
-    u16-at-requires
+    listed-at-requires
     returns
     returns-2
     add-i

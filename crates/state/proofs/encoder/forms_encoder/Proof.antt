@@ -20,11 +20,11 @@ head-ok-requires c κs = search needs
 returns : tie.Need-returns
 returns c = sym (encoder-head _ (sym (c .before .head-ok .ensures) ∙ not-true _ (c .if1 .taken)))
 
-u16-at-requires : tie.Need-u16-at-requires
-u16-at-requires c κs = let h = head-good _ _ _ (headed c) in omega arith
+delete-count-requires : tie.Need-delete-count-requires
+delete-count-requires c κs = let h = head-good _ _ _ (headed c) in omega arith
 
 returns-2 : tie.Need-returns-2
-returns-2 c = sym (encoder-count _ (headed (c .before .before)) (λ e. c .if2 .taken (c .before .u16-at .ensures ∙ e)))
+returns-2 c = sym (encoder-count _ (headed (c .before .before)) (λ e. c .if2 .taken (c .before .delete-count .ensures ∙ e)))
 
 rows-form-requires : tie.Need-rows-form-requires
 rows-form-requires c κs = let h = head-good _ _ _ (headed (c .before .before)) in (h .1, h .0)
@@ -35,4 +35,4 @@ returns-3 c = c .rows-form .ensures ∙ sym (encoder-rows _ (headed (c .before .
 pub forms-encoder-spec : {M : Type 1} → statement M
 forms-encoder-spec =
     tie.close
-    (tie.spec head-ok-requires returns u16-at-requires returns-2 rows-form-requires returns-3)
+    (tie.spec head-ok-requires returns delete-count-requires returns-2 rows-form-requires returns-3)

@@ -6,17 +6,13 @@ use Rattle.state.proofs.row.name_length_at.Tie as tie
 row-place-requires : tie.Need-row-place-requires
 row-place-requires c κs = search needs
 
--- src/row.rt:47:15
-add-u16-at : tie.Need-add-u16-at
-add-u16-at c = search needs
-
 -- src/row.rt:47:5
-u16-at-requires : tie.Need-u16-at-requires
-u16-at-requires c κs = search needs
+name-length-in-requires : tie.Need-name-length-in-requires
+name-length-in-requires c κs = search needs
 
 -- src/row.rt:43:1
 returns : tie.Need-returns
-returns c = rw (c .u16-at .ensures, c .before .row-place .ensures)
+returns c = rw (c .name-length-in .ensures, c .before .row-place .ensures)
 
 pub name-length-at-spec : {M : Type 1} → statement M
-name-length-at-spec = tie.close (tie.spec row-place-requires add-u16-at u16-at-requires returns)
+name-length-at-spec = tie.close (tie.spec row-place-requires name-length-in-requires returns)

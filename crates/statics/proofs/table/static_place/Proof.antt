@@ -11,8 +11,8 @@ use Rattle.statics.proofs.table.static_place.Tie as tie
 arm : {i k : ℕ} → i ≡ k → placeOf k ≡ placeOf i
 arm e = ap placeOf (sym e)
 
-last : (c : tie.At-match-rest) → c .before .args .i ≡ 61
-last c = let b = above 60 (c .before .args .i) (omega arith) (c .match .rest) in omega arith
+last : (c : tie.At-match-rest) → c .before .args .index .value ≡ 61
+last c = let b = above 60 (c .before .args .index .value) (omega arith) (c .match .rest) in omega arith
 
 pub static-place-spec : {M : Type 1} → statement M
 unfolding placeOf placeIn entries

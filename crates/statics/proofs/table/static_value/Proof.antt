@@ -7,7 +7,7 @@ use Rattle.statics.proofs.Places.{place-stands}
 use Rattle.statics.proofs.table.static_value.Statement.{statement}
 use Rattle.statics.proofs.table.static_value.Tie as tie
 
-stood : (c : tie.After-static-place) → Stands (c .before .before .args .text .now) (c .static-place .result) (entryAt (c .before .before .args .i))
+stood : (c : tie.After-static-place) → Stands (c .before .before .args .text .now) (c .static-place .result) (entryAt (c .before .before .args .index .value))
 stood c = place-stands _ (c .before .before .pre .0) (c .static-place .ensures) (c .before .before .pre .1)
 
 static-place-requires : tie.Need-static-place-requires

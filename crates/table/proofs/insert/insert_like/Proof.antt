@@ -20,18 +20,12 @@ use Rattle.table.proofs.insert.insert_like.Tie as tie
 -- `table::insert::insert_like` meets its contract: on both ways the bytes that are copied are those of the name, and the rest is as in the other inserts.
 
 abbrev entry : tie.After-length → tie.Start
-entry c = c .before .before .before .before .before .before .before .before
+entry c = c .before .before .before .before .before .before .before
 
-starts : (c : tie.After-length) → c .before .before .before .u16-at .result ≡ offsetAt (entry c .args .m .now) (entry c .args .named)
-starts c = rw (c .before .before .before .before .before .row-place .ensures) at (c .before .before .before .u16-at .ensures)
-
-lasts : (c : tie.After-length) → c .before .u16-at2 .result ≡ nameLengthAt (entry c .args .m .now) (entry c .args .named)
-lasts c = rw (c .before .before .before .before .before .row-place .ensures) at (c .before .u16-at2 .ensures)
-
-opening : (c : tie.After-length) → Opening (entry c .args .m .now) (entry c .args .place) (c .before .u16-at2 .result) (c .length .result)
+opening : (c : tie.After-length) → Opening (entry c .args .m .now) (entry c .args .place) (c .before .name-length-at .result) (c .length .result)
 opening c =
     let a = entry c .args in
-    subst (λ (k : ℕ). Opening (a .m .now) (a .place) k (c .length .result)) (sym (lasts c))
+    subst (λ (k : ℕ). Opening (a .m .now) (a .place) k (c .length .result)) (sym (c .before .name-length-at .ensures))
     (subst (Opening (a .m .now) (a .place) (nameLengthAt (a .m .now) (a .named))) (sym (c .length .ensures)) (entry c .pre .1 .1))
 
 -- where the two ways meet
@@ -46,11 +40,13 @@ copied c =
     let r = read c in
     let a = entry r .args in
     let w = entry r .pre .1 .0 in
+    let name = r .before .name-length-at .ensures in
+    let start = r .before .before .before .text-at .ensures .0 in
     ⊎-elim
     (λ way. way .5 ∙ way .2 .ensures ∙ ap (overlay (o .«open» .last .0) (o .«open» .result))
-    (name-before (a .m .now) _ (a .place) (a .index .value) _ _ (a .named) _ (opening r) w (lasts r) (starts r) (o .«open» .ensures .1) (way .0 .taken)))
+    (name-before (a .m .now) _ (a .place) (a .index .value) _ _ (a .named) _ (opening r) w name start (o .«open» .ensures .1) (way .0 .taken)))
     (λ way. way .5 ∙ way .2 .ensures ∙ ap (overlay (o .«open» .last .0) (o .«open» .result))
-    (name-behind (a .m .now) _ (a .place) (a .index .value) _ _ (a .named) _ (opening r) w (lasts r) (starts r) (o .«open» .ensures .1) (way .0 .left)))
+    (name-behind (a .m .now) _ (a .place) (a .index .value) _ _ (a .named) _ (opening r) w name start (o .«open» .ensures .1) (way .0 .left)))
     (c .if1 .came)
 
 stays : (c : tie.Joined1) → length (c .if1 .m) ≡ length (c .before .before .before .«open» .last .0)
@@ -59,26 +55,11 @@ stays c =
     let a = entry (read c) .args in
     ap length (copied c) ∙ length-overlay (o .«open» .last .0) (o .«open» .result) (nameAt (a .m .now) (a .named))
 
-row-place-requires : tie.Need-row-place-requires
-row-place-requires c κs = search needs
+text-at-requires : tie.Need-text-at-requires
+text-at-requires c κs = search needs
 
-add-u16-at : tie.Need-add-u16-at
-add-u16-at c = search needs
-
-u16-at-requires : tie.Need-u16-at-requires
-u16-at-requires c κs = search needs
-
-cast-start : tie.Need-cast-start
-cast-start c = search needs
-
-add-start : tie.Need-add-start
-add-start c = search needs
-
-add-u16-at-2 : tie.Need-add-u16-at-2
-add-u16-at-2 c = search needs
-
-u16-at-requires-2 : tie.Need-u16-at-requires-2
-u16-at-requires-2 c κs = search needs
+name-length-at-requires : tie.Need-name-length-at-requires
+name-length-at-requires c κs = search needs
 
 cast-name : tie.Need-cast-name
 cast-name c = search needs
@@ -94,7 +75,7 @@ move-up-requires c κs =
     let o = c .before .before .before .before in
     let r = o .before .before in
     let w = entry r .pre .1 .0 in
-    omega (arith, starts r, lasts r, w .before (c .before .if1 .taken), opening r, o .«open» .ensures .0)
+    omega (arith, r .before .before .before .text-at .ensures .0, r .before .name-length-at .ensures, w .before (c .before .if1 .taken), opening r, o .«open» .ensures .0)
 
 add-move-down : tie.Need-add-move-down
 add-move-down c = search needs
@@ -107,7 +88,7 @@ move-down-requires c κs =
     let o = c .before .before .before .before in
     let r = o .before .before in
     let w = entry r .pre .1 .0 in
-    omega (arith, starts r, lasts r, w .behind (c .before .if1 .left), opening r, o .«open» .ensures .0)
+    omega (arith, r .before .before .before .text-at .ensures .0, r .before .name-length-at .ensures, w .behind (c .before .if1 .left), opening r, o .«open» .ensures .0)
 
 add-copy : tie.Need-add-copy
 add-copy c = search needs
@@ -129,9 +110,10 @@ returns c =
     let a = entry r .args in
     let m = a .m .now in
     let s = a .s .now in
+    let name = r .before in
     entry-in m _ _ _ (nameAt m (a .named)) (stringBytes s (a .value)) (a .place) (a .index .value) (o .«open» .result) _
-    (r .before .u16-at2 .result) (r .length .result)
-    (lasts r ∙ sym (length-part m (textPlace + offsetAt m (a .named)) (nameLengthAt m (a .named)) (omega (arith, opening r, p .1 .0))))
+    (name .name-length-at .result) (r .length .result) (name .name-length-at .ensures
+    ∙ sym (length-part m (textPlace + offsetAt m (a .named)) (nameLengthAt m (a .named)) (omega (arith, opening r, p .1 .0))))
     (r .length .ensures ∙ sym (string-size s (a .value) (p .0)))
     (o .«open» .ensures .0) (o .«open» .ensures .1) (copied (c .before .before .before .before)) refl (c .before .before .copy .ensures .1)
 
@@ -139,13 +121,8 @@ pub insert-like-spec : {M : Type 1} → statement M
 insert-like-spec =
     tie.close
     (tie.spec
-    row-place-requires
-    add-u16-at
-    u16-at-requires
-    cast-start
-    add-start
-    add-u16-at-2
-    u16-at-requires-2
+    text-at-requires
+    name-length-at-requires
     cast-name
     length-requires
     open-requires

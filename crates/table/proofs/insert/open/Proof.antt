@@ -2,6 +2,7 @@ use mathlib.Core.Path.{_≡_, ap}
 use Prim.Native.Nat.{ℕ, _+_, _≤_}
 use native.Mathlib.Omega.{arith}
 use Rattle.memory.specs.Numbers.{number}
+use Rattle.state.specs.Layout.{textPlace, heldPlace, countPlace}
 use Rattle.table.proofs.Steps.{head-in, row-in}
 use borrow.Author.Needs.{needs}
 use Rattle.table.proofs.insert.open.Statement.{statement}
@@ -23,17 +24,17 @@ kept c =
     let held = start .before .before in
     let a = entry c .args in
     head-in (a .m .now) _ _ _ (a .place) (a .index .value) (a .name) (a .value)
-    (held .before .before .u16-at .result) (held .u16-at2 .result) (start .text-start .result)
+    (held .before .before .count-of .result) (held .held-of .result) (start .text-start .result)
     (row .before .before .before .before .open-text .ensures) (row .open-row .ensures) (c .lay .ensures)
 
-u16-at-requires : tie.Need-u16-at-requires
-u16-at-requires c κs = search needs
+count-of-requires : tie.Need-count-of-requires
+count-of-requires c κs = search needs
 
 cast-count : tie.Need-cast-count
 cast-count c = search needs
 
-u16-at-requires-2 : tie.Need-u16-at-requires-2
-u16-at-requires-2 c κs = search needs
+held-of-requires : tie.Need-held-of-requires
+held-of-requires c κs = search needs
 
 cast-held : tie.Need-cast-held
 cast-held c = search needs
@@ -95,7 +96,7 @@ cast-record-insert c = search needs
 record-insert-requires : tie.Need-record-insert-requires
 record-insert-requires c κs =
     let offsets = c .before .before .before in
-    omega (arith, kept offsets 2 4 (omega arith), kept offsets 2 6 (omega arith), entry offsets .pre)
+    omega (arith, kept offsets 2 heldPlace (omega arith), kept offsets 2 countPlace (omega arith), entry offsets .pre)
 
 add-result : tie.Need-add-result
 add-result c = search needs
@@ -111,20 +112,20 @@ returns c =
     let held = start .before .before in
     let count = held .before .before in
     let a = entry offsets .args in (
-      ap (λ (k : ℕ). 3136 + k) (start .text-start .ensures),
+      ap (λ (k : ℕ). textPlace + k) (start .text-start .ensures),
       row-in (a .m .now) _ _ _ (a .place) (a .index .value) (a .name) (a .value)
-          (count .u16-at .result) (held .u16-at2 .result) (start .text-start .result)
+          (count .count-of .result) (held .held-of .result) (start .text-start .result)
           (row .before .before .before .before .open-text .ensures) (row .open-row .ensures) (offsets .lay .ensures) _
-          (count .u16-at .ensures) (held .u16-at2 .ensures) (start .text-start .ensures) (c .before .before .record-insert .ensures),
+          (count .count-of .ensures) (held .held-of .ensures) (start .text-start .ensures) (c .before .before .record-insert .ensures),
     )
 
 pub open-spec : {M : Type 1} → statement M
 open-spec =
     tie.close
     (tie.spec
-    u16-at-requires
+    count-of-requires
     cast-count
-    u16-at-requires-2
+    held-of-requires
     cast-held
     text-start-requires
     add-open-text

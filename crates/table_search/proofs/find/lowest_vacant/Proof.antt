@@ -1,14 +1,12 @@
+-- `table_search::find::lowest_vacant` meets its contract. The loop's invariant: the answer is that of the rows that are left.
 use Prim.Native.Nat.{_-_, _≤_}
-use mathlib.Core.Path.{_≡_, sym, ap, _∙_}
+use mathlib.Core.Path.{_≡_, sym, _∙_}
 use native.Mathlib.Omega.{arith}
-use Rattle.memory.specs.Numbers.{number}
-use Rattle.state.specs.Layout.{countOf, indexAt}
+use Rattle.state.specs.Layout.{countOf}
 use Rattle.table_search.specs.Search.{vacantRow}
 use Rattle.table_search.proofs.Walking.{vacant-start, vacant-more, vacant-here, vacant-done}
 use Rattle.table_search.proofs.find.lowest_vacant.Statement.{statement}
 use Rattle.table_search.proofs.find.lowest_vacant.Tie as tie
-
--- `table_search::find::lowest_vacant` meets its contract. The loop's invariant: the answer is that of the rows that are left.
 
 abbrev Inv-loop : tie.InvT-loop
 Inv-loop m count i₀ i = (i ≤ countOf m) × (vacantRow m (countOf m) 0 ≡ vacantRow m (countOf m - i) i)
@@ -16,8 +14,8 @@ Inv-loop m count i₀ i = (i ≤ countOf m) × (vacantRow m (countOf m) 0 ≡ va
 abbrev μ-loop : tie.MeasureT-loop
 μ-loop m count i₀ i = count - i
 
-u16-at-requires : tie.Need-u16-at-requires Inv-loop μ-loop
-u16-at-requires c κs = omega (arith, c .before .pre .long)
+count-of-requires : tie.Need-count-of-requires Inv-loop μ-loop
+count-of-requires c κs = omega (arith, c .before .pre .long)
 
 cast-count : tie.Need-cast-count Inv-loop μ-loop
 cast-count c = omega arith
@@ -25,24 +23,18 @@ cast-count c = omega arith
 loop-holds : tie.Need-loop-holds Inv-loop μ-loop
 loop-holds c = (omega arith, vacant-start _ _)
 
-row-place-requires : tie.Need-row-place-requires Inv-loop μ-loop
-row-place-requires c κs = omega (arith, c .before .before .before .before .pre .few)
-
-u32-at-requires : tie.Need-u32-at-requires Inv-loop μ-loop
-u32-at-requires c κs = let o = c .before .before .before .before .before .pre in omega (arith, o .few, o .long)
-
-row : (c : tie.After-u32-at Inv-loop μ-loop) → let l = c .before .before .before in c .u32-at .result ≡ indexAt (l .before .before .before .args .m .now) (l .loop .i)
-row c = c .u32-at .ensures ∙ ap (number 4 _) (c .before .row-place .ensures)
+index-at-requires : tie.Need-index-at-requires Inv-loop μ-loop
+index-at-requires c κs = let o = c .before .before .before .before .pre in (omega (arith, o .few), omega (arith, o .long))
 
 cast-if1 : tie.Need-cast-if1 Inv-loop μ-loop
-cast-if1 c = omega (arith, c .before .before .before .before .before .before .pre .few)
+cast-if1 c = omega (arith, c .before .before .before .before .before .pre .few)
 
 add-if1 : tie.Need-add-if1 Inv-loop μ-loop
-add-if1 c = omega (arith, c .before .before .before .before .before .before .pre .few)
+add-if1 c = omega (arith, c .before .before .before .before .before .pre .few)
 
 returns : tie.Need-returns Inv-loop μ-loop
 returns c =
-    sym (c .before .before .before .before .loop .inv .1 ∙ vacant-here _ _ _ (omega arith) (λ e. c .if1 .taken (row (c .before) ∙ e)))
+    sym (c .before .before .before .loop .inv .1 ∙ vacant-here _ _ _ (omega arith) (λ e. c .if1 .taken (c .before .index-at .ensures ∙ e)))
 
 add-i : tie.Need-add-i Inv-loop μ-loop
 add-i c = omega arith
@@ -53,7 +45,7 @@ loop-less c = omega arith
 loop-again : tie.Need-loop-again Inv-loop μ-loop
 loop-again c = (
   omega arith,
-  c .before .before .before .before .loop .inv .1 ∙ vacant-more _ _ _ (omega arith) (sym (row (c .before)) ∙ c .if1 .left),
+  c .before .before .before .loop .inv .1 ∙ vacant-more _ _ _ (omega arith) (sym (c .before .index-at .ensures) ∙ c .if1 .left),
 )
 
 returns-2 : tie.Need-returns-2 Inv-loop μ-loop
@@ -65,11 +57,10 @@ lowest-vacant-spec =
     (tie.spec
     Inv-loop
     μ-loop
-    u16-at-requires
+    count-of-requires
     cast-count
     loop-holds
-    row-place-requires
-    u32-at-requires
+    index-at-requires
     cast-if1
     add-if1
     returns

@@ -15,8 +15,8 @@ Inv-loop m name count i₀ i = (i ≤ countOf m) × (lowestRow (servesAt m name)
 abbrev μ-loop : tie.MeasureT-loop
 μ-loop m name count i₀ i = countOf m - i
 
-u16-at-requires : tie.Need-u16-at-requires Inv-loop μ-loop
-u16-at-requires c κs = omega (arith, c .before .before .pre .long)
+count-of-requires : tie.Need-count-of-requires Inv-loop μ-loop
+count-of-requires c κs = omega (arith, c .before .before .pre .long)
 
 cast-count : tie.Need-cast-count Inv-loop μ-loop
 cast-count c = omega arith
@@ -48,7 +48,7 @@ find-name-spec =
     (tie.spec
     Inv-loop
     μ-loop
-    u16-at-requires
+    count-of-requires
     cast-count
     loop-holds
     has-name-requires

@@ -18,8 +18,8 @@ Inv-loop m name value end n first₀ at₀ first at = (at ≡ rowPlace (rowOf at
 abbrev μ-loop : tie.MeasureT-loop
 μ-loop m name value end n first₀ at₀ first at = end - at
 
-u16-at-requires : tie.Need-u16-at-requires Inv-loop μ-loop
-u16-at-requires c κs = omega (arith, c .before .before .before .pre .long)
+count-of-requires : tie.Need-count-of-requires Inv-loop μ-loop
+count-of-requires c κs = omega (arith, c .before .before .before .pre .long)
 
 cast-row-place : tie.Need-cast-row-place Inv-loop μ-loop
 cast-row-place c = omega arith
@@ -30,11 +30,8 @@ row-place-requires c κs = omega (arith, c .before .before .before .before .pre 
 loop-holds : tie.Need-loop-holds Inv-loop μ-loop
 loop-holds c = (omega arith, pass-start _ _ _)
 
-add-u16-at : tie.Need-add-u16-at Inv-loop μ-loop
-add-u16-at c = omega arith
-
-u16-at-requires-2 : tie.Need-u16-at-requires-2 Inv-loop μ-loop
-u16-at-requires-2 c κs = let o = c .before .before .before .before .before .before .before .pre in omega (arith, o .few, o .long)
+name-length-in-requires : tie.Need-name-length-in-requires Inv-loop μ-loop
+name-length-in-requires c κs = let o = c .before .before .before .before .before .before .before .pre in omega (arith, o .few, o .long)
 
 cast-if1 : tie.Need-cast-if1 Inv-loop μ-loop
 cast-if1 c = omega arith
@@ -43,15 +40,15 @@ has-name-at-requires : tie.Need-has-name-at-requires Inv-loop μ-loop
 has-name-at-requires c κs =
     let place = c .before .before .before .loop .inv .0 in
     let ordered = c .before .before .before .before .before .before .before .before .before .pre in
-    ((record { place = place; held = omega arith }, ordered), sym (row-field 2 6 _ _ place (c .before .u16-at2 .ensures)) ∙ c .if1 .taken)
+    ((record { place = place; held = omega arith }, ordered), sym (row-field 2 6 _ _ place (c .before .name-length-in .ensures)) ∙ c .if1 .taken)
 
 has-value-at-requires : tie.Need-has-value-at-requires Inv-loop μ-loop
 has-value-at-requires c κs =
     let ordered = c .before .before .before .before .before .before .before .before .before .before .before .pre in
     (record { place = c .before .before .before .before .before .loop .inv .0; held = omega arith }, ordered)
 
-sub-t16 : tie.Need-sub-t16 Inv-loop μ-loop
-sub-t16 c = omega arith
+sub-t15 : tie.Need-sub-t15 Inv-loop μ-loop
+sub-t15 c = omega arith
 
 returns : tie.Need-returns Inv-loop μ-loop
 returns c =
@@ -69,7 +66,7 @@ loop-again : tie.Need-loop-again Inv-loop μ-loop
 loop-again c =
     let place = c .before .before .before .loop .inv .0 in
     let p = c .before .before .before .loop .inv .1 in
-    let length = row-field 2 6 _ _ place (c .before .u16-at2 .ensures) in
+    let length = row-field 2 6 _ _ place (c .before .name-length-in .ensures) in
     let ordered = c .before .before .before .before .before .before .before .before .before .pre in (
       omega arith,
       ⊎-elim
@@ -97,16 +94,15 @@ find-pair-spec =
     (tie.spec
     Inv-loop
     μ-loop
-    u16-at-requires
+    count-of-requires
     cast-row-place
     row-place-requires
     loop-holds
-    add-u16-at
-    u16-at-requires-2
+    name-length-in-requires
     cast-if1
     has-name-at-requires
     has-value-at-requires
-    sub-t16
+    sub-t15
     returns
     add-at
     loop-less

@@ -9,28 +9,22 @@ use borrow.Author.Needs.{needs}
 use Rattle.table_search.proofs.names.has_name_at.Statement.{statement}
 use Rattle.table_search.proofs.names.has_name_at.Tie as tie
 
-status : (c : tie.After-u16-at) → let a = c .before .before .before .args in c .u16-at .result ≡ statusAt (a .m .now) (rowOf (a .at))
-status c = row-field 2 10 _ _ (c .before .before .before .pre .0 .0 .place) (c .u16-at .ensures)
+status : (c : tie.After-status-in) → let a = c .before .before .before .args in c .status-in .result ≡ statusAt (a .m .now) (rowOf (a .at))
+status c = row-field 2 10 _ _ (c .before .before .before .pre .0 .0 .place) (c .status-in .ensures)
 
-offset : (c : tie.After-u16-at2) → let a = c .before .before .before .before .before .args in c .u16-at2 .result ≡ offsetAt (a .m .now) (rowOf (a .at))
-offset c = row-field 2 4 _ _ (c .before .before .before .before .before .pre .0 .0 .place) (c .u16-at2 .ensures)
+offset : (c : tie.After-offset-in) → let a = c .before .before .before .before .before .args in c .offset-in .result ≡ offsetAt (a .m .now) (rowOf (a .at))
+offset c = row-field 2 4 _ _ (c .before .before .before .before .before .pre .0 .0 .place) (c .offset-in .ensures)
 
-add-u16-at : tie.Need-add-u16-at
-add-u16-at c = search needs
-
-u16-at-requires : tie.Need-u16-at-requires
-u16-at-requires c κs = search needs
+status-in-requires : tie.Need-status-in-requires
+status-in-requires c κs = search needs
 
 returns : tie.Need-returns
 returns c =
     let p = c .before .before .before .before .pre in
     sym (under-deletion _ (p .0 .1) _ (p .0 .0 .held) _ (λ e. c .if1 .taken (status (c .before) ∙ e)))
 
-add-u16-at-2 : tie.Need-add-u16-at-2
-add-u16-at-2 c = search needs
-
-u16-at-requires-2 : tie.Need-u16-at-requires-2
-u16-at-requires-2 c κs = search needs
+offset-in-requires : tie.Need-offset-in-requires
+offset-in-requires c κs = search needs
 
 cast-stands-at : tie.Need-cast-stands-at
 cast-stands-at c = search needs
@@ -56,11 +50,9 @@ pub has-name-at-spec : {M : Type 1} → statement M
 has-name-at-spec =
     tie.close
     (tie.spec
-    add-u16-at
-    u16-at-requires
+    status-in-requires
     returns
-    add-u16-at-2
-    u16-at-requires-2
+    offset-in-requires
     cast-stands-at
     add-stands-at
     stands-at-requires

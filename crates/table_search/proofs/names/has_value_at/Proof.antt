@@ -9,20 +9,17 @@ use borrow.Author.Needs.{needs}
 use Rattle.table_search.proofs.names.has_value_at.Statement.{statement}
 use Rattle.table_search.proofs.names.has_value_at.Tie as tie
 
-value-length : (c : tie.After-u16-at) → let a = c .before .before .before .args in c .u16-at .result ≡ valueLengthAt (a .m .now) (rowOf (a .at))
-value-length c = row-field 2 8 _ _ (c .before .before .before .pre .0 .place) (c .u16-at .ensures)
+value-length : (c : tie.After-value-length-in) → let a = c .before .before .before .args in c .value-length-in .result ≡ valueLengthAt (a .m .now) (rowOf (a .at))
+value-length c = row-field 2 8 _ _ (c .before .before .before .pre .0 .place) (c .value-length-in .ensures)
 
-offset : (c : tie.After-u16-at2) → let a = c .before .before .before .before .before .args in c .u16-at2 .result ≡ offsetAt (a .m .now) (rowOf (a .at))
-offset c = row-field 2 4 _ _ (c .before .before .before .before .before .pre .0 .place) (c .u16-at2 .ensures)
+offset : (c : tie.After-offset-in) → let a = c .before .before .before .before .before .args in c .offset-in .result ≡ offsetAt (a .m .now) (rowOf (a .at))
+offset c = row-field 2 4 _ _ (c .before .before .before .before .before .pre .0 .place) (c .offset-in .ensures)
 
-name-length : (c : tie.After-u16-at3) → let a = c .before .before .before .before .before .before .args in c .u16-at3 .result ≡ nameLengthAt (a .m .now) (rowOf (a .at))
-name-length c = row-field 2 6 _ _ (c .before .before .before .before .before .before .pre .0 .place) (c .u16-at3 .ensures)
+name-length : (c : tie.After-name-length-in) → let a = c .before .before .before .before .before .before .args in c .name-length-in .result ≡ nameLengthAt (a .m .now) (rowOf (a .at))
+name-length c = row-field 2 6 _ _ (c .before .before .before .before .before .before .pre .0 .place) (c .name-length-in .ensures)
 
-add-u16-at : tie.Need-add-u16-at
-add-u16-at c = search needs
-
-u16-at-requires : tie.Need-u16-at-requires
-u16-at-requires c κs = search needs
+value-length-in-requires : tie.Need-value-length-in-requires
+value-length-in-requires c κs = search needs
 
 cast-n : tie.Need-cast-n
 cast-n c = search needs
@@ -32,11 +29,8 @@ returns c =
     let p = c .before .before .before .before .pre in
     sym (other-value _ (p .1) _ (p .0 .held) _ (λ e. c .if1 .taken (value-length (c .before) ∙ e)))
 
-add-u16-at-2 : tie.Need-add-u16-at-2
-add-u16-at-2 c = search needs
-
-u16-at-requires-2 : tie.Need-u16-at-requires-2
-u16-at-requires-2 c κs = search needs
+offset-in-requires : tie.Need-offset-in-requires
+offset-in-requires c κs = search needs
 
 cast-start : tie.Need-cast-start
 cast-start c = search needs
@@ -44,11 +38,8 @@ cast-start c = search needs
 add-start : tie.Need-add-start
 add-start c = search needs
 
-add-u16-at-3 : tie.Need-add-u16-at-3
-add-u16-at-3 c = search needs
-
-u16-at-requires-3 : tie.Need-u16-at-requires-3
-u16-at-requires-3 c κs = search needs
+name-length-in-requires : tie.Need-name-length-in-requires
+name-length-in-requires c κs = search needs
 
 cast-start-2 : tie.Need-cast-start-2
 cast-start-2 c = search needs
@@ -75,16 +66,13 @@ pub has-value-at-spec : {M : Type 1} → statement M
 has-value-at-spec =
     tie.close
     (tie.spec
-    add-u16-at
-    u16-at-requires
+    value-length-in-requires
     cast-n
     returns
-    add-u16-at-2
-    u16-at-requires-2
+    offset-in-requires
     cast-start
     add-start
-    add-u16-at-3
-    u16-at-requires-3
+    name-length-in-requires
     cast-start-2
     add-start-2
     stands-at-requires

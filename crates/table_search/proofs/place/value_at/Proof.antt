@@ -16,7 +16,7 @@ enum-known-place-2 : tie.Need-enum-known-place-2
 enum-known-place-2 c = search needs
 
 row-value-requires : tie.Need-row-value-requires
-row-value-requires c κs = let p = c .before .before .before .before .before .pre in (p .1 .0, subst (InPlace _) (c .before .place2 .given .1) (p .1 .1))
+row-value-requires c κs = let p = c .before .before .before .before .before .pre in (subst (InPlace _) (c .before .place2 .given .1) (p .1 .1), p .1 .0)
 
 enum-told : tie.Need-enum-told
 enum-told c = search needs

@@ -1,10 +1,14 @@
 -- `name::read_name` gives what `readName` says: one equation of it for each way through the function.
 use mathlib.Core.Path.{sym, ap, _∙_}
+use native.Mathlib.Omega.{arith}
 use Rattle.integers.specs.Integer.{intAnswer}
 use Rattle.wire.specs.Text.{stringAnswer}
 use Rattle.integers.specs.declared.integer.IntRead.{IntRead}
+use Rattle.integers.specs.declared.number.TableIndex.{TableIndex}
+use Rattle.integers.proofs.Bounds.{int-good}
 use Rattle.wire.specs.declared.text.StringRead.{StringRead}
-use Rattle.wire.specs.declared.name.NameRead.the-variants.{Refused}
+use Rattle.wire.specs.declared.name.NamePlace.the-variants.{Index}
+use Rattle.wire.specs.declared.name.NameRead.the-variants.{Found, Refused}
 use Rattle.wire.proofs.Strings.{name-refused, name-index, name-text-refused, name-text}
 use borrow.Author.Needs.{needs}
 use Rattle.wire.proofs.name.read_name.Statement.{statement}
@@ -28,8 +32,16 @@ returns c =
     ap Refused (c .number .ensures ∙ ap (λ (r : IntRead). intAnswer r .number) told)
     ∙ sym (name-refused _ _ _ _ (c .before .before .before .read .ensures) _ told)
 
+new-requires : tie.Need-new-requires
+new-requires c κs =
+    let u = c .before .before .before .before in
+    omega (arith, c .if1 .taken, int-good _ _ _ (u .before .before .pre .1) _ (u .read .ensures) _ _ (c .before .before .r .given .1))
+
 returns-2 : tie.Need-returns-2
-returns-2 c = sym (name-index _ _ _ _ (c .before .before .before .before .read .ensures) _ _ (c .before .before .r .given .1) (c .if1 .taken))
+returns-2 c =
+    let u = c .before .before .before in
+    ap (λ (index : TableIndex). Found (Index index) (u .r .given .0 .1 .0)) (c .new .ensures)
+    ∙ sym (name-index _ _ _ _ (u .before .before .read .ensures) _ _ (u .r .given .1) (c .before .if1 .taken))
 
 read-string-requires : tie.Need-read-string-requires
 read-string-requires c κs = search needs
@@ -66,6 +78,7 @@ read-name-spec =
     enum-told
     number-requires
     returns
+    new-requires
     returns-2
     read-string-requires
     enum-known-t

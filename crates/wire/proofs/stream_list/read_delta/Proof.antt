@@ -3,7 +3,8 @@ use mathlib.Core.Path.{sym, ap, _∙_}
 use native.Mathlib.Omega.{arith}
 use Rattle.integers.specs.Integer.{intAnswer}
 use Rattle.integers.specs.declared.integer.IntRead.{IntRead}
-use Rattle.wire.specs.declared.stream_list.DeltaRead.the-variants.{Refused}
+use Rattle.integers.specs.declared.number.StreamNumber.{StreamNumber}
+use Rattle.wire.specs.declared.stream_list.DeltaRead.the-variants.{Stream, Refused}
 use Rattle.integers.proofs.Bounds.{int-good}
 use Rattle.wire.proofs.ListLaws.{delta-refused, delta-zero, delta-over, delta-stream}
 use borrow.Author.Needs.{needs}
@@ -31,25 +32,29 @@ returns-2 : tie.Need-returns-2
 returns-2 c =
     sym (delta-zero _ _ _ _ (c .before .before .before .before .read .ensures) _ _ (c .before .before .r .given .1) (omega arith))
 
-add-if2 : tie.Need-add-if2
-add-if2 c =
+add-stream : tie.Need-add-stream
+add-stream c =
     omega (arith, int-good 8 _ _ (omega arith) _ (c .before .before .before .before .read .ensures) _ _ (c .before .before .r .given .1))
+
+cast-if2 : tie.Need-cast-if2
+cast-if2 c = search needs
 
 returns-3 : tie.Need-returns-3
 returns-3 c =
     let u = c .before .before .before in
     sym (delta-over _ _ _ _ (u .before .before .read .ensures) _ _ (u .r .given .1) (omega arith) (c .if2 .taken))
 
-add-t10 : tie.Need-add-t10
-add-t10 c = search needs
+cast-new : tie.Need-cast-new
+cast-new c = search needs
 
-cast-t11 : tie.Need-cast-t11
-cast-t11 c = search needs
+new-requires : tie.Need-new-requires
+new-requires c κs = search needs
 
 returns-4 : tie.Need-returns-4
 returns-4 c =
-    let u = c .before .before .before in
-    sym (delta-stream _ _ _ _ (u .before .before .read .ensures) _ _ (u .r .given .1) (omega arith) (c .if2 .left))
+    let u = c .before .before .before .before in
+    ap (λ (stream : StreamNumber). Stream stream (u .r .given .0 .1 .0)) (c .new .ensures)
+    ∙ sym (delta-stream _ _ _ _ (u .before .before .read .ensures) _ _ (u .r .given .1) (omega arith) (c .before .if2 .left))
 
 pub read-delta-spec : {M : Type 1} → statement M
 read-delta-spec =
@@ -61,8 +66,9 @@ read-delta-spec =
     number-requires
     returns
     returns-2
-    add-if2
+    add-stream
+    cast-if2
     returns-3
-    add-t10
-    cast-t11
+    cast-new
+    new-requires
     returns-4)

@@ -15,7 +15,7 @@ wide-requires : tie.Need-wide-requires
 wide-requires c κs = search needs
 
 returns-2 : tie.Need-returns-2
-returns-2 c = sym (short-string-long _ _ (c .before .before .before .if1 .left) _ (c .before .wide .ensures) (c .if2 .taken))
+returns-2 c = sym (short-string-long _ _ (c .before .before .before .if1 .left) _ (c .before .wide .ensures .0) (c .if2 .taken))
 
 cast-size : tie.Need-cast-size
 cast-size c = search needs
@@ -27,13 +27,13 @@ sub-if3 : tie.Need-sub-if3
 sub-if3 c = search needs
 
 returns-3 : tie.Need-returns-3
-returns-3 c = sym (short-string-cut _ _ (c .before .before .before .before .if1 .left) _ (c .before .before .wide .ensures) (c .before .if2 .left) (c .if3 .taken))
+returns-3 c = sym (short-string-cut _ _ (c .before .before .before .before .if1 .left) _ (c .before .before .wide .ensures .0) (c .before .if2 .left) (c .if3 .taken))
 
 add-next : tie.Need-add-next
 add-next c = search needs
 
 returns-4 : tie.Need-returns-4
-returns-4 c = sym (short-string-found _ _ (c .before .before .before .before .if1 .left) _ (c .before .before .wide .ensures) (c .before .if2 .left) (c .if3 .left))
+returns-4 c = sym (short-string-found _ _ (c .before .before .before .before .if1 .left) _ (c .before .before .wide .ensures .0) (c .before .if2 .left) (c .if3 .left))
 
 pub short-string-spec : {M : Type 1} → statement M
 short-string-spec =

@@ -1,7 +1,9 @@
 -- `WireInt::read` gives what `readInt` says: one equation of it for each way through the function.
-use mathlib.Core.Path.{sym, _∙_}
+use Prim.Native.Nat.{ℕ, _+_}
+use mathlib.Core.Path.{ap, sym, _∙_}
 use native.Mathlib.Omega.{arith}
 use native.Mathlib.Nat.{mod-lt}
+use Rattle.integers.specs.declared.integer.IntRead.the-variants.{Value}
 use Rattle.integers.proofs.Groups.{readInt-short, readInt-small, readInt-groups}
 use borrow.Author.Needs.{needs}
 use Rattle.integers.proofs.integer.WireInt.read.Statement.{statement}
@@ -28,9 +30,14 @@ add-next c = search needs
 sub-if2 : tie.Need-sub-if2
 sub-if2 c = search needs
 
+new-requires : tie.Need-new-requires
+new-requires c κs = search needs
+
 returns-2 : tie.Need-returns-2
 returns-2 c =
-    sym (readInt-small _ _ _ (omega arith) _ _ (c .before .wide .ensures) (c .before .before .before .power .ensures .0) (c .if2 .taken))
+    let d = c .before .before in
+    ap (λ (v : ℕ). Value (record { value = v }) (d .before .before .before .before .before .args .at + 1)) (c .new .ensures)
+    ∙ sym (readInt-small _ _ _ (omega arith) _ _ (d .wide .ensures .0) (d .before .before .power .ensures .0) (c .before .if2 .taken))
 
 read-groups-requires : tie.Need-read-groups-requires
 read-groups-requires c κs = omega (arith, mod-lt (c .before .wide .result) {m = c .before .before .before .power .result} (omega arith))
@@ -39,7 +46,7 @@ returns-3 : tie.Need-returns-3
 returns-3 c =
     let d = c .before .before in
     c .read-groups .ensures
-    ∙ sym (readInt-groups _ _ _ (omega arith) _ _ (d .wide .ensures) (d .before .before .power .ensures .0) (c .before .if2 .left))
+    ∙ sym (readInt-groups _ _ _ (omega arith) _ _ (d .wide .ensures .0) (d .before .before .power .ensures .0) (c .before .if2 .left))
 
 pub read-spec : {M : Type 1} → statement M
 read-spec =
@@ -52,6 +59,7 @@ read-spec =
     rem-first
     add-next
     sub-if2
+    new-requires
     returns-2
     read-groups-requires
     returns-3)

@@ -39,10 +39,10 @@ new-requires c κs = search needs
 returns-2 : tie.Need-returns-2
 returns-2 c =
     ap (λ (v : ℕ). Value (record { value = v }) (c .before .before .before .before .before .before .before .args .at + 1)) (c .new .ensures)
-    ∙ sym (short-int-one _ _ _ (c .before .before .before .before .before .if1 .left) _ _ (c .before .before .wide .ensures) (c .before .before .before .before .power .ensures .0) (c .before .if2 .taken))
+    ∙ sym (short-int-one _ _ _ (c .before .before .before .before .before .if1 .left) _ _ (c .before .before .wide .ensures .0) (c .before .before .before .before .power .ensures .0) (c .before .if2 .taken))
 
 returns-3 : tie.Need-returns-3
-returns-3 c = sym (short-int-cut _ _ _ (c .before .before .before .before .before .if1 .left) _ _ (c .before .before .wide .ensures) (c .before .before .before .before .power .ensures .0) (c .before .if2 .left) (c .if3 .taken))
+returns-3 c = sym (short-int-cut _ _ _ (c .before .before .before .before .before .if1 .left) _ _ (c .before .before .wide .ensures .0) (c .before .before .before .before .power .ensures .0) (c .before .if2 .left) (c .if3 .taken))
 
 shared-slice-read-wide-2 : tie.Need-shared-slice-read-wide-2
 shared-slice-read-wide-2 c = search needs
@@ -52,7 +52,7 @@ wide-requires-2 c κs = search needs
 
 returns-4 : tie.Need-returns-4
 returns-4 c =
-    sym (short-int-long _ _ _ (c .before .before .before .before .before .before .before .before .if1 .left) _ _ (c .before .before .before .before .before .wide .ensures) (c .before .before .before .before .before .before .before .power .ensures .0) (c .before .before .before .before .if2 .left) (c .before .before .before .if3 .left) _ (c .before .wide2 .ensures)
+    sym (short-int-long _ _ _ (c .before .before .before .before .before .before .before .before .if1 .left) _ _ (c .before .before .before .before .before .wide .ensures .0) (c .before .before .before .before .before .before .before .power .ensures .0) (c .before .before .before .before .if2 .left) (c .before .before .before .if3 .left) _ (c .before .wide2 .ensures .0)
     (c .if4 .taken))
 
 add-new : tie.Need-add-new
@@ -67,7 +67,7 @@ add-t8 c = search needs
 returns-5 : tie.Need-returns-5
 returns-5 c =
     ap (λ (v : ℕ). Value (record { value = v }) (c .before .before .before .before .before .before .before .before .before .before .before .args .at + 1 + 1)) (c .new2 .ensures)
-    ∙ sym (short-int-two _ _ _ (c .before .before .before .before .before .before .before .before .before .if1 .left) _ _ (c .before .before .before .before .before .before .wide .ensures) (c .before .before .before .before .before .before .before .before .power .ensures .0) (c .before .before .before .before .before .if2 .left) (c .before .before .before .before .if3 .left) _ (c .before .before .wide2 .ensures)
+    ∙ sym (short-int-two _ _ _ (c .before .before .before .before .before .before .before .before .before .if1 .left) _ _ (c .before .before .before .before .before .before .wide .ensures .0) (c .before .before .before .before .before .before .before .before .power .ensures .0) (c .before .before .before .before .before .if2 .left) (c .before .before .before .before .if3 .left) _ (c .before .before .wide2 .ensures .0)
     (c .before .if4 .left))
 
 pub short-spec : {M : Type 1} → statement M

@@ -1,0 +1,73 @@
+// A line of a recording, run; and the lines of a file, read and run one after another.
+ghost use lib.ListN.{length};
+ghost use Rattle.text_io.specs.Lines.{Inside};
+use recorded_call::perform_within;
+use recording::Call;
+use recording::Fault;
+use recording::Line;
+use recording::read_line;
+use reply::Reply;
+use text_io::lines::Next;
+use text_io::lines::Reader;
+use text_io::lines::next_line;
+use tokens::MOST_BYTES;
+
+// How many bytes a line says at most: those of two words.
+const LINE_BYTES: usize = 2 * MOST_BYTES;
+
+// What became of a line: there was nothing to do, a call was answered, or it is no call; or there was no line left.
+pub enum Ran {
+    Comment,
+    Answered(Call, Reply),
+    Bad(Fault),
+    End,
+}
+
+// What became of the next line of a file, and what is still to be read.
+pub struct Turn {
+    pub ran: Ran,
+    pub rest: Reader,
+}
+
+// Runs a line on the memories of both ends.
+fn run_line(line: &[u8], decoder: &mut [u8], encoder: &mut [u8], output: &mut [u8]) -> Ran {
+    let mut bytes = [0u8; LINE_BYTES];
+    let l = read_line(line, &mut bytes);
+    match l {
+        Line::Comment => Ran::Comment,
+        Line::Bad(fault) => Ran::Bad(fault),
+        Line::Recorded(call) => {
+            let r = perform_within(call, &bytes, decoder, encoder, output);
+            Ran::Answered(call, r)
+        }
+    }
+}
+
+// Reads the next line of a file into `input` and runs it on the memories of both ends.
+pub fn run_next(
+    fd: i32,
+    input: &mut [u8],
+    reader: Reader,
+    decoder: &mut [u8],
+    encoder: &mut [u8],
+    output: &mut [u8],
+) -> Turn
+    requires { ⌜ Inside (length (now input)) reader ⌝ }
+    ensures { λ t. ⌜ Inside (length (now (input .exit))) (t .rest) ⌝ }
+{
+    let next = next_line(fd, input, reader);
+    match next {
+        Next::End => Turn {
+            ran: Ran::End,
+            rest: Reader::new(),
+        },
+        Next::TooLong(rest) => Turn {
+            ran: Ran::Bad(Fault::TooLong),
+            rest,
+        },
+        Next::Line(from, to, rest) => {
+            let ran = run_line(&input[from..to], decoder, encoder, output);
+            Turn { ran, rest }
+        }
+    }
+}

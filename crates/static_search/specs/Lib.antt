@@ -1,0 +1,4 @@
+-- Searches of the static table.
+pub mod Search
+pub mod Hash
+pub mod Ends
