@@ -16,11 +16,11 @@ void check(const char *file, int line, int holds, const char *what)
     }
 }
 
-/* What a call answered and told, packed as the header says. */
+/* What a call answered and told, joined as the header says. */
 static void told(const char *file, int line, uint64_t result, int answer, uint32_t first, uint32_t second)
 {
-    uint64_t packed = (uint64_t)answer + ((uint64_t)first << 8) + ((uint64_t)second << 40);
-    check(file, line, result == packed, "answer or told numbers");
+    uint64_t joined = (uint64_t)answer + ((uint64_t)first << 8) + ((uint64_t)second << 40);
+    check(file, line, result == joined, "answer or told numbers");
     check(file, line, KOLOWROTAN_ANSWER(result) == answer, "KOLOWROTAN_ANSWER");
     check(file, line, KOLOWROTAN_FIRST(result) == first, "KOLOWROTAN_FIRST");
     check(file, line, KOLOWROTAN_SECOND(result) == second, "KOLOWROTAN_SECOND");

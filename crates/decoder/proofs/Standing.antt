@@ -1,5 +1,5 @@
 -- What memory that forms a decoder's state gives to a call: the laws of its changes, and what a step of the model leaves of it.
--- By the claims of `changes` and `state_laws`.
+-- By the claims of `table_laws` and `state_laws`.
 use mathlib.Core.Path.{_≡_, refl, sym, ap, _∙_}
 use Prim.Native.Nat.{ℕ, _≤_}
 use native.Mathlib.Omega.{arith}

@@ -1,39 +1,76 @@
 -- The block call by its ways: each refusal in its order, and what a block in turn that reads well gives. By the tests along that way.
 -- Where nothing changes, the state is laid over the memory that it was read from, and an empty output over the lent one.
-use Prim.Native.Nat.{ℕ, _+_, _≤_, _<_}
-use mathlib.Core.Path.{_≡_, sym, ap, _∙_}
+use Prim.Native.Nat.{ℕ, _+_, _*_, _≤_, _<_}
+use mathlib.Core.Path.{_≡_, refl, sym, ap, _∙_}
 use native.Mathlib.Omega.{arith}
-use mathlib.Core.Bool.{true, false}
-use mathlib.Core.Option.{some}
+use mathlib.Core.Bool.{Bool, true, false, _&&_}
+use mathlib.Core.Option.{none, some}
 use mathlib.Core.List.{List}
+use lib.Dec.{ltb, eqb}
 use lib.ListN.{length}
-use borrow.Author.Tests.{lt-ltb, le-leb, lt-leb}
+use borrow.Author.Tests.{lt-ltb, le-leb, lt-leb, ltb-true, eqb-true}
 use Rattle.memory.specs.Bytes.{overlay}
-use Rattle.memory.proofs.Order.{need-true, need-false}
+use Rattle.memory.proofs.Order.{either, not-both, need-true, need-false}
 use Rattle.integers.specs.Answers.{Answer, done}
 use Rattle.marks.specs.Marks.{cleared}
 use Rattle.fields.specs.Form.{Field, listForm}
 use Rattle.blocks.specs.Reading.{BlockRead, readBlock}
 use Rattle.blocks.specs.Meaning.{BlockMeaning, list}
-use Rattle.model.specs.Parts.{Part, nontrailer, trailer, partOf, partNumber}
+use Rattle.model.specs.Parts.{Part, nontrailer, trailer, partOf, Marks, inTurn}
 use Rattle.model.specs.Outcome.{outputBytes}
 use Rattle.model.specs.Decoder.{giveFields, decodePart, decodeBlock}
-use Rattle.model_laws.proofs.Marks.{part-back}
-use Rattle.state.specs.Layout.{frontLength, marksPlace}
+use Rattle.state.specs.Layout.{marksPlace}
 use Rattle.state.specs.DecoderState.{decoderOf, overlayDecoder}
 use Rattle.state.specs.Forms.{formsDecoder}
 use Rattle.state_laws.proofs.DecoderLaws.{decoder-laws}
-use Rattle.parts.specs.Turn.{partTurn}
-use Rattle.parts.proofs.Given.{in-turn}
+use Rattle.parts.specs.Turn.{partTurn, partIn, turnOf}
+use Rattle.parts.specs.declared.turn.Part.{Part as PartCase}
+use Rattle.parts.specs.declared.turn.Turn.the-variants.{Of}
+use Rattle.parts.proofs.Given as parts
+use Rattle.model_laws.proofs.Marks.{part-back}
+use Rattle.integers.specs.declared.number.StreamNumber.{StreamNumber}
 use Rattle.reply.specs.Result.{Result, refused, stepped}
 use Rattle.decoder.specs.Calls.{blockCall}
 use Rattle.decoder_survey.specs.Measure.{Stands, ReadsWell, meaningOf}
 use Rattle.decoder_survey.proofs.Entries.{changes}
 
--- the marks of a kind of part lie in memory
-pub marks-within : (m : List ℕ) (p : Part) → frontLength ≤ length m → marksPlace p + 512 ≤ length m
-marks-within m nontrailer h = omega arith
-marks-within m trailer h = omega arith
+-- ---- the part in turn, and where its kind's marks stand
+
+pub record InTurn (marks : Marks) (stream part : ℕ) : Type 0 where
+  pub kind : Part
+  pub is : partOf part ≡ some kind
+  pub low : stream < 4096
+  pub turn : inTurn marks stream kind ≡ true
+  pub few : part ≤ 1
+  pub place : 64 + 512 * part ≡ marksPlace kind
+
+both : (a b : Bool) → (a && b) ≡ true → (a ≡ true) × (b ≡ true)
+both true b e = (refl, e)
+both false b e = not-both false e refl
+
+module _ (marks : Marks) (stream part : ℕ) where
+  of-kind : (p : Part) → partOf part ≡ some p → part ≤ 1 → 64 + 512 * part ≡ marksPlace p → partTurn marks stream (partOf part) ≡ true
+      → InTurn marks stream part
+  unfolding partTurn
+  of-kind p e few place t =
+      let b = both (ltb stream 4096) (inTurn marks stream p) (rw e at t) in
+      record { kind = p; is = e; low = ltb-true stream 4096 (b .0); turn = b .1; few = few; place = place }
+
+  pub in-turn : partTurn marks stream (partOf part) ≡ true → InTurn marks stream part
+  unfolding partOf partTurn
+  in-turn t =
+      either (eqb part 0)
+      (λ z. let e = eqb-true part 0 z in of-kind nontrailer (rw z) (omega arith) (omega arith) t)
+      (λ z. either (eqb part 1)
+      (λ o. let e = eqb-true part 1 o in of-kind trailer (rw (z, o)) (omega arith) (omega arith) t)
+      (λ o. let f : partOf part ≡ none = rw (z, o) in
+      not-both (partTurn marks stream (partOf part)) t (ap (partTurn marks stream) f)))
+
+-- ---- the answer that a part is in turn
+
+module _ (marks : Marks) (stream part : ℕ) where
+  pub turned : (s : StreamNumber) (c : PartCase) → turnOf marks stream (partOf part) ≡ Of s c → partTurn marks stream (partOf part) ≡ true
+  turned s c e = let g = parts.given marks stream part s c e in rw (g .stream, g .number, part-back (partIn c)) (g .turn)
 
 -- ---- the ways
 
@@ -47,27 +84,24 @@ module _ (m : List ℕ) (stream part : ℕ) (s out : List ℕ) where
   unfolding blockCall
   no-state e = need-false _ _ _ e
 
-  pub out-of-turn : formsDecoder m ≡ true → partTurn (decoderOf m .finished) stream (partOf part) ≡ false → blockCall m stream part s out ≡ refused m out 11
-  unfolding blockCall
-  out-of-turn forms e = need-true _ _ _ forms ∙ need-false _ _ _ e
+  module _ (forms : formsDecoder m ≡ true) where
+    pub out-of-turn : partTurn (decoderOf m .finished) stream (partOf part) ≡ false → blockCall m stream part s out ≡ refused m out 11
+    unfolding blockCall
+    out-of-turn e = need-true _ _ _ forms ∙ need-false _ _ _ e
 
-module _ (m : List ℕ) (S : Stands m) (stream : ℕ) (kind : Part) (t : partTurn (decoderOf m .finished) stream (some kind) ≡ true) (s out : List ℕ) where
-  abbrev Call : Result
-  Call = blockCall m stream (partNumber kind) s out
+    pub not-read : partTurn (decoderOf m .finished) stream (partOf part) ≡ true → (number : ℕ) → readBlock s ≡ BlockRead.refused number
+        → blockCall m stream part s out ≡ refused m out number
+    unfolding blockCall
+    not-read t number e = simp (forms, t, e)
 
-  pub not-read : (number : ℕ) → readBlock s ≡ BlockRead.refused number → Call ≡ refused m out number
-  unfolding blockCall
-  not-read number e = simp (S .forms, part-back kind, t, e)
-
-  module _ (w : ReadsWell s) where
-    given : (M : BlockMeaning) → meaningOf m s ≡ M → Call ≡ stepped overlayDecoder m out (giveFields (decoderOf m) stream kind (length out) M)
+  module _ (S : Stands m) (T : InTurn (decoderOf m .finished) stream part) (w : ReadsWell s) where
+    given : (M : BlockMeaning) → meaningOf m s ≡ M
+        → blockCall m stream part s out ≡ stepped overlayDecoder m out (giveFields (decoderOf m) stream (T .kind) (length out) M)
     unfolding blockCall decodeBlock decodePart meaningOf partTurn
-    given M e =
-        let T = in-turn (decoderOf m .finished) stream kind t in
-        simp (S .forms, part-back kind, lt-ltb stream 4096 (T .0), T .1, w .1, ← e)
+    given M e = simp (S .forms, T .is, lt-ltb stream 4096 (T .low), T .turn, w .1, ← e)
 
     pub waits : (i : ℕ) → meaningOf m s ≡ BlockMeaning.waits i
-        → Call ≡ record { answer = record { number = 1; first = i; second = 0 }; memory = m; output = out }
+        → blockCall m stream part s out ≡ record { answer = record { number = 1; first = i; second = 0 }; memory = m; output = out }
     unfolding stepped giveFields outputBytes
     waits i e =
         given (BlockMeaning.waits i) e
@@ -75,7 +109,7 @@ module _ (m : List ℕ) (S : Stands m) (stream : ℕ) (kind : Part) (t : partTur
         (decoder-laws .self m (S .small) (S .forms))
 
     module _ (fs : List Field) (e : meaningOf m s ≡ list fs) where
-      pub no-room : length out < length (listForm fs) → Call ≡ refused m out 12
+      pub no-room : length out < length (listForm fs) → blockCall m stream part s out ≡ refused m out 12
       unfolding stepped giveFields outputBytes
       no-room h =
           given (list fs) e
@@ -83,10 +117,10 @@ module _ (m : List ℕ) (S : Stands m) (stream : ℕ) (kind : Part) (t : partTur
           ∙ ap (λ (n : List ℕ). refused n out 12) (decoder-laws .self m (S .small) (S .forms))
 
       pub gives : length (listForm fs) ≤ length out
-          → Call
+          → blockCall m stream part s out
           ≡ record {
             answer = done (length (listForm fs)) 0;
-            memory = cleared m (marksPlace kind) stream;
+            memory = cleared m (64 + 512 * part) stream;
             output = overlay out 0 (listForm fs);
           }
       unfolding stepped giveFields outputBytes
@@ -94,4 +128,4 @@ module _ (m : List ℕ) (S : Stands m) (stream : ℕ) (kind : Part) (t : partTur
           given (list fs) e
           ∙ ap (stepped overlayDecoder m out) (need-true _ _ _ (le-leb (length (listForm fs)) (length out) h))
           ∙ ap (λ (n : List ℕ). record { answer = done (length (listForm fs)) 0; memory = n; output = overlay out 0 (listForm fs) })
-          (sym (changes m S .finish stream kind (in-turn (decoderOf m .finished) stream kind t .0)))
+          (sym (ap (λ (k : ℕ). cleared m k stream) (T .place) ∙ changes m S .finish stream (T .kind) (T .low)))

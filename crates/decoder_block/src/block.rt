@@ -1,10 +1,12 @@
 // The block call: 17, 11, 13, reading, 1, 12. Nothing is written before all of these have passed.
 ghost use mathlib.Core.Path.{_≡_};
 ghost use mathlib.Core.Bool.{true};
-ghost use mathlib.Core.Option.{some};
+ghost use Prim.Native.Nat.{_+_, _*_, _≤_};
+ghost use Rattle.model.specs.Parts.{partOf};
+ghost use Rattle.state.specs.Layout.{marksPlace};
 ghost use Rattle.state.specs.DecoderState.{decoderOf};
 ghost use Rattle.reply.specs.Reply.{answerOf};
-ghost use Rattle.parts.specs.Turn.{partTurn, partIn, caseNumber};
+ghost use Rattle.parts.specs.Turn.{partTurn, partIn};
 ghost use Rattle.decoder.specs.Calls.{blockCall};
 ghost use Rattle.decoder_survey.specs.Measure.{Stands};
 use decoder_fields::write::write_fields;
@@ -23,12 +25,24 @@ use parts::turn::turn_of;
 use reply::Reply;
 use state::decoder::forms_decoder;
 
-// A block in turn: 13 and the refusals of reading, 1, 12, or its fields, and its part is finished.
-fn give(m: &mut [u8], stream: StreamNumber, part: Part, s: &[u8], out: &mut [u8]) -> Reply
-    requires { ⌜ Stands (now m) × (partTurn (decoderOf (now m) .finished) (stream .value) (some (partIn part)) ≡ true) ⌝ }
-    ensures { λ r. ⌜ answerOf r ≡ blockCall (now (m .entry)) (stream .value) (caseNumber part) (now (s .entry)) (now (out .entry)) .answer ⌝ }
-    ensures { λ _. ⌜ now (m .exit) ≡ blockCall (now (m .entry)) (stream .value) (caseNumber part) (now (s .entry)) (now (out .entry)) .memory ⌝ }
-    ensures { λ _. ⌜ now (out .exit) ≡ blockCall (now (m .entry)) (stream .value) (caseNumber part) (now (s .entry)) (now (out .entry)) .output ⌝ }
+// The part with this number, of the two that there are.
+fn kind_of(part: u64) -> Part
+    requires { ⌜ part ≤ 1 ⌝ }
+    ensures { λ r. ⌜ marksPlace (partIn r) ≡ 64 + 512 * part ⌝ }
+{
+    if part == 0 {
+        return Part::Nontrailer;
+    }
+    Part::Trailer
+}
+
+// A block in turn: 13 and the refusals of reading, 1, 12, or its fields, and its part is finished. Stream and part become types again where the part is
+// finished: held as types through both passes they take registers from them, 166 instructions a field for 161 (machine reports, warm).
+fn give(m: &mut [u8], stream: u64, part: u64, s: &[u8], out: &mut [u8]) -> Reply
+    requires { ⌜ Stands (now m) × (partTurn (decoderOf (now m) .finished) stream (partOf part) ≡ true) ⌝ }
+    ensures { λ r. ⌜ answerOf r ≡ blockCall (now (m .entry)) stream part (now (s .entry)) (now (out .entry)) .answer ⌝ }
+    ensures { λ _. ⌜ now (m .exit) ≡ blockCall (now (m .entry)) stream part (now (s .entry)) (now (out .entry)) .memory ⌝ }
+    ensures { λ _. ⌜ now (out .exit) ≡ blockCall (now (m .entry)) stream part (now (s .entry)) (now (out .entry)) .output ⌝ }
 {
     match survey_block(m, s) {
         Survey::Refused(number) => Reply::refused(number),
@@ -42,7 +56,11 @@ fn give(m: &mut [u8], stream: StreamNumber, part: Part, s: &[u8], out: &mut [u8]
                 return Reply::refused(NO_ROOM);
             }
             write_fields(m, s, out);
-            clear(m, marks_place(part), stream);
+            clear(
+                m,
+                marks_place(kind_of(part)),
+                StreamNumber::new(stream as u16),
+            );
             Reply::done(n as u32, 0)
         }
     }
@@ -57,8 +75,8 @@ pub fn block(m: &mut [u8], stream: u64, part: u64, s: &[u8], out: &mut [u8]) -> 
         return Reply::refused(NO_STATE);
     }
     let turn = turn_of(m, stream, part);
-    let Turn::Of(number, kind) = turn else {
+    let Turn::Of(_, _) = turn else {
         return Reply::refused(OUT_OF_TURN);
     };
-    give(m, number, kind, s, out)
+    give(m, stream, part, s, out)
 }

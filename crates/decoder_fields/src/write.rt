@@ -189,11 +189,10 @@ fn write_short(s: &[u8], at: usize, next: usize, out: &mut [u8], to: usize) -> u
     copy(&s[from..next], out, to + 1)
 }
 
-// All fields from a place of the block on, whatever their form. Only here the static text is made, once: 86 instructions, which a block that names no static
-// entry is spared. A block does not go back to `write_fields` from here: the text would be made again at the next static entry, and a row would gain two
-// instructions (13 rows behind a static index take 2,432, before it 2,408). A short literal gains more, so it is looked for here too: 13 of them behind a static
-// index take 2,296 instructions for 3,733, a field 201 for 235 (browser requests, literal), though 171 for 168 where all are indexes (warm).
-// An index goes its own way, past `read_literal_at`, whose answer is built in memory. `write_indexed` is called in this one place: a second makes the code slower.
+// All fields from a place of the block on, whatever their form. The static text is made here, once: 86 instructions. A block does not go back to
+// `write_fields`: the text would be made again at the next static index, and a row would gain two instructions (13 rows behind a static index take 2,432,
+// before it 2,408). Short literals looked for here too were measured: 201 instructions a field for 219 (browser requests, literal), but 171 for 167 where all
+// fields are indexes (warm), which is too much. `write_indexed` is called in this one place: a second makes the code slower.
 fn write_rest(m: &[u8], s: &[u8], from: usize, out: &mut [u8], start: usize)
     requires { ⌜ Stands (now m) ⌝ }
     requires { ⌜ Unwritten (now m) (now s) (now out) from start ⌝ }
@@ -211,20 +210,12 @@ fn write_rest(m: &[u8], s: &[u8], from: usize, out: &mut [u8], start: usize)
             to = write_indexed(&text, m, index, out, to);
             at = next;
         } else {
-            match short_literal(s, at) {
-                ShortLiteral::Ends(next) => {
-                    to = write_short(s, at, next, out, to);
-                    at = next;
-                }
-                ShortLiteral::Other => {
-                    let r = read_literal_at(s, at);
-                    let RepresentationRead::Found(place, next) = r else {
-                        return;
-                    };
-                    to = write_literal_place(&text, m, s, place, out, to);
-                    at = next;
-                }
-            }
+            let r = read_literal_at(s, at);
+            let RepresentationRead::Found(place, next) = r else {
+                return;
+            };
+            to = write_literal_place(&text, m, s, place, out, to);
+            at = next;
         }
     }
 }

@@ -21,13 +21,11 @@ use state::encoder::forms_encoder;
 use state::kept::horizon_at;
 use state::reference::nontrailer_reference;
 use state::reference::trailer_reference;
+use state::row::DELETED;
 use state::row::put_status;
 use state::row::status_at;
 use table_search::find::Found;
 use table_search::find::find;
-
-// The status of an entry under deletion.
-const DELETED: u16 = 1;
 
 // An entry that is not under deletion: 12, or its delete.
 fn delete_found(m: &mut [u8], index: TableIndex, place: usize, out: &mut [u8]) -> Reply

@@ -1,4 +1,4 @@
--- The rows of a table and their text: read from memory, and as bytes. Names and values are packed in the order of the rows, with no gaps.
+-- The rows of a table and their text: read from memory, and as bytes. Names and values stand in the order of the rows, with no gaps.
 use Prim.Native.Nat.{ℕ, zero, suc, _+_}
 use mathlib.Core.List.{List, [], _∷_, _++_}
 use lib.ListN.{length}

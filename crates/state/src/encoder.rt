@@ -16,7 +16,7 @@ use crate::layout::LAST_SENT_INDEX;
 use crate::layout::MOST_HORIZON;
 use crate::reference::nontrailer_reference;
 use crate::reference::trailer_reference;
-use crate::row::UNDER_DELETION;
+use crate::row::DELETED;
 use crate::row::index_at;
 use crate::row::status_at;
 use crate::row::text_length_at;
@@ -27,7 +27,7 @@ fn reference_ok(m: &[u8], i: usize) -> bool
     requires { ⌜ (i < 128) × (62 ≤ indexAt (now m) i) × (indexAt (now m) i ≤ 189) × (encoderLength ≤ length (now m)) ⌝ }
     ensures { λ r. ⌜ r ≡ referenceOk (now (m .entry)) i ⌝ }
 {
-    if UNDER_DELETION < status_at(m, i) {
+    if DELETED < status_at(m, i) {
         return false;
     }
     let index = TableIndex::new(index_at(m, i));

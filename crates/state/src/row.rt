@@ -25,7 +25,7 @@ const STATUS: usize = 10;
 const REST: usize = 12;
 
 // What an encoder's row has as status where its entry is under deletion.
-pub const UNDER_DELETION: u16 = 1;
+pub const DELETED: u16 = 1;
 
 // The entry's index.
 pub fn index_at(m: &[u8], i: usize) -> u32

@@ -1,4 +1,4 @@
--- Rows that pass the test are read as good rows whose text is packed, and memory that is read as such rows passes it. By induction over the rows.
+-- Rows that pass the test are read as good rows whose text has no gaps, and memory that is read as such rows passes it. By induction over the rows.
 use Prim.Native.Nat.{ℕ, zero, suc, _+_, _*_, _≤_, _<_}
 use mathlib.Core.Path.{_≡_, refl, sym, ap, ap₂, subst}
 use native.Mathlib.Omega.{arith}

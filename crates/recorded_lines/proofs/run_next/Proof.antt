@@ -1,4 +1,4 @@
--- `line::run_next` meets its contract: what was found lies in the input, and so does what is left.
+-- `recorded_lines::run_next` meets its contract: what was found lies in the input, and so does what is left.
 use mathlib.Core.Path.{_≡_, subst}
 use Prim.Native.Nat.{ℕ}
 use native.Mathlib.Omega.{arith}

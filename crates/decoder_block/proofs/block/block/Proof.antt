@@ -1,3 +1,4 @@
+-- `block` meets its contract: the refusals in their order, and then what the block gives.
 use denote.Ref.{now}
 use native.Mathlib.Omega.{arith}
 use mathlib.Core.Path.{_≡_, refl, sym, _∙_}
@@ -5,25 +6,19 @@ use mathlib.Core.Bool.{true}
 use borrow.Author.Tests.{not-true, not-false}
 use Rattle.state.specs.DecoderState.{decoderOf}
 use Rattle.state.specs.Forms.{formsDecoder}
-use Rattle.parts.proofs.Given.{Given, given, none-given}
+use Rattle.parts.proofs.Given.{none-given}
 use Rattle.decoder_survey.specs.Measure.{Stands}
 use Rattle.decoder_survey.proofs.Entries.{changes}
-use Rattle.decoder_block.proofs.Calls.{leaves, no-state, out-of-turn}
+use Rattle.decoder_block.proofs.Calls.{turned, leaves, no-state, out-of-turn}
 use borrow.Author.Needs.{needs}
 use Rattle.decoder_block.proofs.block.block.Statement.{statement}
 use Rattle.decoder_block.proofs.block.block.Tie as tie
-
--- `block` meets its contract: the refusals in their order, and then what the block gives.
 
 forms : (c : tie.Else1) → formsDecoder (now (c .before .before .before .before .before .before .args .m)) ≡ true
 forms c = sym (c .before .forms-decoder .ensures) ∙ not-false _ (c .if1 .left)
 
 stands : (c : tie.Else1) → Stands (now (c .before .before .before .before .before .before .args .m))
 stands c = record { small = λ k. omega (arith, c .before .before .before .before .before .slice-known .given k); forms = forms c; state = refl }
-
-turn : (c : tie.After-turn) → let a = c .before .before .before .before .before .before .before .before .before .before .args in Given (decoderOf (now (a .m)) .finished) (a .stream) (a .part) (c .turn .given .0 .0) (c .turn .given .0 .1 .0)
-unfolding decoderOf
-turn c = given _ _ _ _ _ (sym (c .before .before .turn-of .ensures) ∙ c .turn .given .1)
 
 forms-decoder-requires : tie.Need-forms-decoder-requires
 forms-decoder-requires c κs = search needs
@@ -42,11 +37,11 @@ returns c =
 turn-of-requires : tie.Need-turn-of-requires
 turn-of-requires c κs = changes _ (stands (c .before)) .ordered .long
 
-enum-known-turn : tie.Need-enum-known-turn
-enum-known-turn c = search needs
-
 enum-told : tie.Need-enum-told
 enum-told c = search needs
+
+enum-told-2 : tie.Need-enum-told-2
+enum-told-2 c = search needs
 
 refused-requires-2 : tie.Need-refused-requires-2
 refused-requires-2 c κs = search needs
@@ -57,11 +52,15 @@ same-length-2 c = search needs
 returns-2 : tie.Need-returns-2
 unfolding decoderOf
 returns-2 c =
-    let e = none-given _ _ _ (sym (c .before .before .before .turn-of .ensures) ∙ c .before .enum-told .given .1) in
+    let e = none-given _ _ _ (sym (c .before .before .before .turn-of .ensures) ∙ c .before .enum-told2 .given .1) in
     leaves (out-of-turn _ _ _ _ _ (forms (c .before .before .before .before .before)) e) (c .refused2 .ensures) refl refl
 
 give-requires : tie.Need-give-requires
-give-requires c κs = (stands (c .before .before .before .before .before .before .before), turn (c .before .before .before) .turn)
+unfolding decoderOf
+give-requires c κs = (
+  stands (c .before .before .before .before .before .before),
+  turned _ _ _ _ _ (sym (c .before .before .before .before .turn-of .ensures) ∙ c .before .before .enum-told .given .1),
+)
 
 same-length-3 : tie.Need-same-length-3
 same-length-3 c = search needs
@@ -70,9 +69,7 @@ same-length-4 : tie.Need-same-length-4
 same-length-4 c = search needs
 
 returns-3 : tie.Need-returns-3
-returns-3 c =
-    let t = turn (c .before .before .before .before .before .before .before .before) in
-    rw (t .stream, t .number) (c .before .before .before .before .give .ensures)
+returns-3 c = search needs
 
 pub block-spec : {M : Type 1} → statement M
 block-spec =
@@ -83,8 +80,8 @@ block-spec =
     same-length
     returns
     turn-of-requires
-    enum-known-turn
     enum-told
+    enum-told-2
     refused-requires-2
     same-length-2
     returns-2

@@ -1,24 +1,26 @@
+-- `give` meets its contract: by what was surveyed it is refused, waits, finds no room, or gives the fields and finishes the part.
 use Prim.Native.Nat.{ℕ}
 use denote.Ref.{now}
 use native.Mathlib.Omega.{arith}
-use mathlib.Core.Path.{refl, sym, ap, subst, _∙_}
+use mathlib.Core.Path.{refl, sym, ap, ap₂, subst, _∙_}
 use lib.ListN.{length}
 use Rattle.integers.specs.Answers.{done}
+use Rattle.integers.specs.declared.number.StreamNumber.{StreamNumber}
 use Rattle.marks.specs.Marks.{cleared}
 use Rattle.blocks.specs.Meaning.{BlockMeaning}
-use Rattle.parts.specs.Turn.{partIn}
-use Rattle.parts.proofs.Given.{in-turn}
+use Rattle.state.specs.DecoderState.{decoderOf}
 use Rattle.decoder_survey.specs.Measure.{IsList, listBytes}
 use Rattle.decoder_survey.specs.Passes.{ToldSurvey}
 use Rattle.decoder_survey.specs.declared.measure.Survey.the-variants.{Bytes, Waits, Refused}
 use Rattle.decoder_survey.proofs.Entries.{changes}
 use Rattle.decoder_survey.proofs.Surveying.{Gives, survey-is}
-use Rattle.decoder_block.proofs.Calls.{marks-within, leaves, not-read, waits, no-room, gives}
+use Rattle.decoder_block.proofs.Calls.{InTurn, in-turn, leaves, not-read, waits, no-room, gives}
 use borrow.Author.Needs.{needs}
 use Rattle.decoder_block.proofs.block.give.Statement.{statement}
 use Rattle.decoder_block.proofs.block.give.Tie as tie
 
--- `give` meets its contract: by what was surveyed it is refused, waits, finds no room, or gives the fields and finishes the part.
+turn : (c : tie.Start) → let a = c .args in InTurn (decoderOf (now (a .m)) .finished) (a .stream) (a .part)
+turn c = in-turn _ _ _ (c .pre .1)
 
 fields : (c : tie.After-known-told3) → Gives (now (c .before .before .before .before .before .before .before .before .args .m)) (now (c .before .before .before .before .before .before .before .before .args .s)) (c .before .n .given .0 .0)
 fields c = survey-is _ _ (Bytes (c .before .n .given .0 .0)) (sym (c .before .n .given .1) ∙ c .before .before .before .survey-block .ensures .0)
@@ -47,9 +49,9 @@ same-length c = search needs
 returns : tie.Need-returns
 returns c =
     let known = c .before .before in
-    let p = known .before .before .before .before .before .before .before .before .pre in
+    let start = known .before .before .before .before .before .before .before .before in
     let f = fields known in
-    leaves (no-room _ (p .0) _ _ (p .1) _ _ (f .reads) (f .fields) (f .means) (omega (arith, f .long, c .before .if1 .taken)))
+    leaves (no-room _ _ _ _ _ (start .pre .0) (turn start) (f .reads) (f .fields) (f .means) (omega (arith, f .long, c .before .if1 .taken)))
     (c .refused2 .ensures) refl refl
 
 write-fields-requires : tie.Need-write-fields-requires
@@ -59,19 +61,28 @@ write-fields-requires c κs =
     let n = ap (λ (M : BlockMeaning). length (listBytes M)) (f .means) in
     (known .before .before .before .before .before .before .before .before .pre .0, (f .reads, (subst IsList (sym (f .means)) tt, omega (arith, f .long, n, c .before .before .if1 .left))))
 
+kind-of-requires : tie.Need-kind-of-requires
+kind-of-requires c κs = let t = turn (c .before .before .before .before .before .before .before .before .before .before .before .before .before .before .before) in omega (arith, t .few)
+
 marks-place-requires : tie.Need-marks-place-requires
 marks-place-requires c κs = search needs
 
+cast-new : tie.Need-cast-new
+cast-new c = let t = turn (c .before .before .before .before .before .before .before .before .before .before .before .before .before .before .before .before .before) in omega (arith, t .low)
+
+new-requires : tie.Need-new-requires
+new-requires c κs = let t = turn (c .before .before .before .before .before .before .before .before .before .before .before .before .before .before .before .before .before) in omega (arith, t .low)
+
 clear-requires : tie.Need-clear-requires
 clear-requires c κs =
-    let start = c .before .before .before .before .before .before .before .before .before .before .before .before .before .before .before .before in
-    let p = start .pre in
-    rw (c .marks-place .ensures)
-    (in-turn _ _ _ (p .1) .0, marks-within (now (start .args .m)) (partIn (start .args .part)) (changes _ (p .0) .ordered .long))
+    let start = c .before .before .before .before .before .before .before .before .before .before .before .before .before .before .before .before .before .before in
+    let t = turn start in
+    rw (c .new .ensures)
+    (t .low, omega (arith, c .before .marks-place .ensures, c .before .before .kind-of .ensures, t .few, changes _ (start .pre .0) .ordered .long))
 
 cast-done : tie.Need-cast-done
 cast-done c =
-    let known = c .before .before .before .before .before .before .before .before .before .before .before in
+    let known = c .before .before .before .before .before .before .before .before .before .before .before .before .before in
     let t = subst ToldSurvey (known .before .n .given .1) (known .before .before .before .survey-block .ensures .1) refl in
     omega (arith, t)
 
@@ -83,19 +94,21 @@ same-length-2 c = search needs
 
 returns-2 : tie.Need-returns-2
 returns-2 c =
-    let p = c .before .before .before .before .before .before .before .before .before .pre in
+    let start = c .before .before .before .before .before .before .before .before .before in
+    let p = start .pre in
     let number = c .before .before .number .given .0 .0 in
     let e = survey-is _ _ (Refused number) (sym (c .before .before .number .given .1) ∙ c .before .before .before .before .survey-block .ensures .0) in
-    leaves (not-read _ (p .0) _ _ (p .1) _ _ _ e) (c .refused .ensures) refl refl
+    leaves (not-read _ _ _ _ _ (p .0 .forms) (p .1) _ e) (c .refused .ensures) refl refl
 
 same-length-3 : tie.Need-same-length-3
 same-length-3 c = search needs
 
 returns-3 : tie.Need-returns-3
 returns-3 c =
-    let p = c .before .before .before .before .before .before .before .before .pre in
+    let start = c .before .before .before .before .before .before .before .before in
+    let p = start .pre in
     let e = survey-is _ _ (Waits (c .before .index .given .0 .0)) (sym (c .before .index .given .1) ∙ c .before .before .before .survey-block .ensures .0) in
-    leaves (waits _ (p .0) _ _ (p .1) _ _ (e .0) _ (e .1)) refl refl refl
+    leaves (waits _ _ _ _ _ (p .0) (turn start) (e .0) _ (e .1)) refl refl refl
 
 same-length-4 : tie.Need-same-length-4
 same-length-4 c = search needs
@@ -105,14 +118,14 @@ same-length-5 c = search needs
 
 returns-4 : tie.Need-returns-4
 returns-4 c =
-    let known = c .before .before .before .before .before .before .before .before .before .before .before .before in
+    let known = c .before .before .before .before .before .before .before .before .before .before .before .before .before .before in
     let start = known .before .before .before .before .before .before .before .before in
     let a = start .args in
     let f = fields known in
-    leaves (gives _ (start .pre .0) _ _ (start .pre .1) _ _ (f .reads) (f .fields) (f .means) (omega (arith, f .long, c .before .before .before .before .before .before .before .before .before .before .before .if1 .left)))
+    leaves (gives _ _ _ _ _ (start .pre .0) (turn start) (f .reads) (f .fields) (f .means) (omega (arith, f .long, c .before .before .before .before .before .before .before .before .before .before .before .before .before .if1 .left)))
     (c .done .ensures ∙ ap (λ (n : ℕ). done n 0) (sym (f .long)))
-    (c .before .before .before .clear .ensures ∙ ap (λ (k : ℕ). cleared (now (a .m)) k (a .stream .value)) (c .before .before .before .before .marks-place .ensures))
-    (rw (f .means) at (c .before .before .before .before .before .before .before .before .write-fields .ensures))
+    (c .before .before .before .clear .ensures ∙ ap₂ (λ (k : ℕ) (x : StreamNumber). cleared (now (a .m)) k (x .value)) (c .before .before .before .before .before .marks-place .ensures ∙ c .before .before .before .before .before .before .kind-of .ensures) (c .before .before .before .before .new .ensures))
+    (rw (f .means) at (c .before .before .before .before .before .before .before .before .before .before .write-fields .ensures))
 
 pub give-spec : {M : Type 1} → statement M
 give-spec =
@@ -127,7 +140,10 @@ give-spec =
     same-length
     returns
     write-fields-requires
+    kind-of-requires
     marks-place-requires
+    cast-new
+    new-requires
     clear-requires
     cast-done
     done-requires

@@ -1,22 +1,18 @@
 -- `write_rest` meets its contract. The invariant: the rest laid over the output so far is what is to be written laid over the output as it was.
-use Prim.Native.Nat.{ℕ, _+_, _-_}
+use Prim.Native.Nat.{_-_}
 use denote.Ref.{now}
 use native.Mathlib.Omega.{arith}
 use mathlib.Core.Path.{_≡_, sym, ap, _∙_}
-use mathlib.Core.List.{List}
 use lib.ListN.{length}
 use borrow.Author.Needs.{needs}
 use Rattle.memory.specs.Bytes.{overlay}
 use Rattle.blocks.specs.Reading.{readRepresentation}
-use Rattle.blocks.specs.Short.{shortLiteralAt}
 use Rattle.blocks.specs.declared.read.RepresentationPlace.the-variants.{Indexed}
 use Rattle.blocks.specs.declared.read.RepresentationRead.the-variants.{Found}
-use Rattle.blocks.specs.declared.short.ShortLiteral.the-variants.{Ends}
 use Rattle.blocks.proofs.Bounds.{representation-good}
 use Rattle.decoder_survey.specs.Measure.{listBytes}
 use Rattle.decoder_survey.specs.Passes.{meaningFrom}
 use Rattle.decoder_survey.proofs.Rest.{no-refusal}
-use Rattle.decoder_survey.proofs.ShortForms.{short-length, ShortReads, short-reads}
 use Rattle.decoder_fields.specs.Indexes.{indexIn, IsLiteral}
 use Rattle.decoder_fields.proofs.Indexing.{entry-read, other-read, low-other, high-other}
 use Rattle.decoder_fields.proofs.Writing.{Writing, writing-on, writing-next, writing-turn, writing-ends}
@@ -34,23 +30,15 @@ entry : (c : tie.After-known-told Inv-loop μ-loop) → let p = c .before .i .gi
     readRepresentation (now (c .before .before .before .before .before .before .before .before .before .before .before .before .args .s)) (c .before .before .before .before .before .before .before .loop .at) ≡ Found (Indexed (p .0)) (p .1 .0)
 entry c = entry-read _ _ _ (sym (c .before .i .given .1) ∙ c .before .before .before .read-index .ensures)
 
--- a short literal stands there, and what it is read as
-short : (c : tie.After-known-told2 Inv-loop μ-loop) → shortLiteralAt (now (c .before .before .before .before .before .before .before .before .before .before .before .before .args .s)) (c .before .before .before .before .before .before .before .loop .at) ≡ Ends (c .before .next .given .0 .0)
-short c = sym (c .before .before .before .short-literal .ensures) ∙ c .before .next .given .1
-
-short-read : (c : tie.After-known-told2 Inv-loop μ-loop)
-    → let a = c .before .before .before .before .before .before .before .before .before .before .before .before .args in ShortReads (now (a .m)) (now (a .s)) (c .before .before .before .before .before .before .before .loop .at) (c .before .next .given .0 .0)
-short-read c = short-reads _ _ _ _ (c .before .before .before .before .before .before .loop-test .taken) (c .before .before .before .before .if1 .left) (short c)
-
--- any other literal
-read : (c : tie.After-known-told3 Inv-loop μ-loop) → let p = c .before .r .given .0 in
-    readRepresentation (now (c .before .before .before .before .before .before .before .before .before .before .before .before .before .before .before .args .s)) (c .before .before .before .before .before .before .before .before .before .before .loop .at) ≡ Found (p .0) (p .1 .0)
+-- a literal
+read : (c : tie.After-known-told2 Inv-loop μ-loop) → let p = c .before .r .given .0 in
+    readRepresentation (now (c .before .before .before .before .before .before .before .before .before .before .before .before .args .s)) (c .before .before .before .before .before .before .before .loop .at) ≡ Found (p .0) (p .1 .0)
 read c = sym (c .before .before .before .read-literal-at .ensures) ∙ c .before .r .given .1
 
-literal : (c : tie.After-known-told3 Inv-loop μ-loop) → IsLiteral (c .before .r .given .0 .0)
+literal : (c : tie.After-known-told2 Inv-loop μ-loop) → IsLiteral (c .before .r .given .0 .0)
 literal c =
     let p = c .before .r .given .0 in
-    other-read (p .0) (p .1 .0) (low-other _ _ (c .before .before .before .before .before .before .before .before .before .loop-test .taken) (c .before .before .before .before .before .before .before .if1 .left) ∙ ap indexIn (read c))
+    other-read (p .0) (p .1 .0) (low-other _ _ (c .before .before .before .before .before .before .loop-test .taken) (c .before .before .before .before .if1 .left) ∙ ap indexIn (read c))
 
 static-text-requires : tie.Need-static-text-requires Inv-loop μ-loop
 static-text-requires c κs = search needs
@@ -97,52 +85,22 @@ loop-again c =
     let w = c .before .before .write-indexed .ensures in
     writing-turn _ _ _ _ _ _ _ (known .before .before .before .before .before .before .before .loop .inv) (known .before .before .before .before .before .before .loop-test .taken) _ _ (entry known) _ _ (w .0) (w .1)
 
-short-literal-requires : tie.Need-short-literal-requires Inv-loop μ-loop
-short-literal-requires c κs = search needs
-
-enum-known-next : tie.Need-enum-known-next Inv-loop μ-loop
-enum-known-next c = search needs
-
-write-short-requires : tie.Need-write-short-requires Inv-loop μ-loop
-write-short-requires c κs =
-    let known = c .before in
-    let z = short-read known in
-    let h = known .before .before .before .before .before .before .loop-test .taken in
-    let w = writing-next _ _ _ _ _ _ _ (known .before .before .before .before .before .before .before .loop .inv) h _ _ (z .reads) in
-    let n = short-length (now (known .before .before .before .before .before .before .before .before .before .before .before .before .args .s)) (known .before .before .before .before .before .before .before .loop .at) (known .before .next .given .0 .0) (z .past) (z .inside) in
-    ((h, known .before .before .before .before .if1 .left, short known), omega (arith, w .1, ap length (z .bytes), n))
-
-loop-less-2 : tie.Need-loop-less-2 Inv-loop μ-loop
-loop-less-2 c = let z = short-read (c .before .before .before .before) in omega (arith, z .past, z .inside)
-
-loop-again-2 : tie.Need-loop-again-2 Inv-loop μ-loop
-loop-again-2 c =
-    let known = c .before .before .before .before in
-    let z = short-read known in
-    let l = known .before .before .before .before .before .before .before .loop in
-    let w = c .before .before .write-short .ensures in
-    writing-turn _ _ _ _ _ _ _ (l .inv) (known .before .before .before .before .before .before .loop-test .taken) _ _ (z .reads) _ _ (w .0 ∙ ap (λ (x : List ℕ). l .to + length x) (sym (z .bytes)))
-    (w .1 ∙ ap (overlay (l .out) (l .to)) (sym (z .bytes)))
-
-enum-told-2 : tie.Need-enum-told-2 Inv-loop μ-loop
-enum-told-2 c = search needs
-
 read-literal-at-requires : tie.Need-read-literal-at-requires Inv-loop μ-loop
-read-literal-at-requires c κs = (c .before .before .before .before .before .loop-test .taken, omega (arith, c .before .before .before .if1 .left))
+read-literal-at-requires c κs = (c .before .before .loop-test .taken, omega (arith, c .if1 .left))
 
 enum-known-r : tie.Need-enum-known-r Inv-loop μ-loop
 enum-known-r c = search needs
 
-enum-told-3 : tie.Need-enum-told-3 Inv-loop μ-loop
-enum-told-3 c = search needs
+enum-told-2 : tie.Need-enum-told-2 Inv-loop μ-loop
+enum-told-2 c = search needs
 
 same-length-2 : tie.Need-same-length-2 Inv-loop μ-loop
-same-length-2 c = c .before .before .before .before .before .before .before .before .before .loop .inv .same
+same-length-2 c = c .before .before .before .before .before .before .loop .inv .same
 
 returns-2 : tie.Need-returns-2 Inv-loop μ-loop
 returns-2 c =
-    let e = sym (c .before .before .read-literal-at .ensures) ∙ c .enum-told3 .given .1 in
-    no-refusal _ _ (c .before .before .before .before .before .before .before .before .before .loop .inv .rest .reads) (c .before .before .before .before .before .before .before .before .loop-test .taken) _ e
+    let e = sym (c .before .before .read-literal-at .ensures) ∙ c .enum-told2 .given .1 in
+    no-refusal _ _ (c .before .before .before .before .before .before .loop .inv .rest .reads) (c .before .before .before .before .before .loop-test .taken) _ e
 
 slice-aggregate-write-literal-place : tie.Need-slice-aggregate-write-literal-place Inv-loop μ-loop
 slice-aggregate-write-literal-place c = search needs
@@ -150,17 +108,17 @@ slice-aggregate-write-literal-place c = search needs
 write-literal-place-requires : tie.Need-write-literal-place-requires Inv-loop μ-loop
 write-literal-place-requires c κs =
     let known = c .before .before in
-    let w = writing-next _ _ _ _ _ _ _ (known .before .before .before .before .before .before .before .before .before .before .loop .inv) (known .before .before .before .before .before .before .before .before .before .loop-test .taken) _ _ (read known) in
-    ((known .before .before .before .before .before .before .before .before .before .before .before .static-text .ensures, known .before .before .before .before .before .before .before .before .before .before .before .before .before .before .before .pre .0), (literal known, (representation-good _ _ _ _ (read known) .places, w)))
+    let w = writing-next _ _ _ _ _ _ _ (known .before .before .before .before .before .before .before .loop .inv) (known .before .before .before .before .before .before .loop-test .taken) _ _ (read known) in
+    ((known .before .before .before .before .before .before .before .before .static-text .ensures, known .before .before .before .before .before .before .before .before .before .before .before .before .pre .0), (literal known, (representation-good _ _ _ _ (read known) .places, w)))
 
-loop-less-3 : tie.Need-loop-less-3 Inv-loop μ-loop
-loop-less-3 c = let g = representation-good _ _ _ _ (read (c .before .before .before .before .before)) in omega (arith, g .past, g .inside)
+loop-less-2 : tie.Need-loop-less-2 Inv-loop μ-loop
+loop-less-2 c = let g = representation-good _ _ _ _ (read (c .before .before .before .before .before)) in omega (arith, g .past, g .inside)
 
-loop-again-3 : tie.Need-loop-again-3 Inv-loop μ-loop
-loop-again-3 c =
+loop-again-2 : tie.Need-loop-again-2 Inv-loop μ-loop
+loop-again-2 c =
     let known = c .before .before .before .before .before in
     let w = c .before .before .write-literal-place .ensures in
-    writing-turn _ _ _ _ _ _ _ (known .before .before .before .before .before .before .before .before .before .before .loop .inv) (known .before .before .before .before .before .before .before .before .before .loop-test .taken) _ _ (read known) _ _ (w .0) (w .1)
+    writing-turn _ _ _ _ _ _ _ (known .before .before .before .before .before .before .before .loop .inv) (known .before .before .before .before .before .before .loop-test .taken) _ _ (read known) _ _ (w .0) (w .1)
 
 same-length-3 : tie.Need-same-length-3 Inv-loop μ-loop
 same-length-3 c = c .before .loop .inv .same
@@ -186,20 +144,14 @@ write-rest-spec =
     write-indexed-requires
     loop-less
     loop-again
-    short-literal-requires
-    enum-known-next
-    write-short-requires
-    loop-less-2
-    loop-again-2
-    enum-told-2
     read-literal-at-requires
     enum-known-r
-    enum-told-3
+    enum-told-2
     same-length-2
     returns-2
     slice-aggregate-write-literal-place
     write-literal-place-requires
-    loop-less-3
-    loop-again-3
+    loop-less-2
+    loop-again-2
     same-length-3
     returns-3)

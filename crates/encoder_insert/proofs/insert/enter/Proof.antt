@@ -1,4 +1,4 @@
--- `encoder::insert::enter` meets its contract: one change after the other.
+-- `encoder_insert::insert::enter` meets its contract: one change after the other.
 use Prim.Native.Nat.{ℕ}
 use mathlib.Core.Path.{sym, ap, subst, _∙_}
 use native.Mathlib.Omega.{arith}

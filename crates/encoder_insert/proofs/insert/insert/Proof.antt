@@ -1,4 +1,4 @@
--- `encoder::insert::insert` meets its contract: each way out is one law of `Inserting`; past the tests the entry fits.
+-- `encoder_insert::insert::insert` meets its contract: each way out is one law of `Inserting`; past the tests the entry fits.
 use mathlib.Core.Path.{_≡_, refl, sym, _∙_}
 use mathlib.Core.Bool.{true}
 use Prim.Native.Nat.{_+_, _≤_}

@@ -1,4 +1,4 @@
--- `encoder::insert::insert_fitting` meets its contract: the name is chosen as the model chooses, so the size is the length of the insert.
+-- `encoder_insert::insert::insert_fitting` meets its contract: the name is chosen as the model chooses, so the size is the length of the insert.
 use Prim.Native.Nat.{_+_, _≤_, _<_}
 use mathlib.Core.Path.{_≡_, refl, sym, ap, _∙_}
 use native.Mathlib.Omega.{arith}

@@ -1,16 +1,14 @@
+-- `state::kept::delete_index_at` meets its contract: the number at the delete's place.
 use borrow.Author.Needs.{needs}
 use Rattle.state.proofs.kept.delete_index_at.Statement.{statement}
 use Rattle.state.proofs.kept.delete_index_at.Tie as tie
 
--- src/kept.rt:29:15
 delete-place-requires : tie.Need-delete-place-requires
 delete-place-requires c κs = search needs
 
--- src/kept.rt:29:5
 u32-at-requires : tie.Need-u32-at-requires
 u32-at-requires c κs = search needs
 
--- src/kept.rt:25:1
 returns : tie.Need-returns
 returns c = rw (c .u32-at .ensures, c .before .delete-place .ensures)
 

@@ -1,20 +1,17 @@
+-- `state::kept::put_delete_index` meets its contract: one number is stored.
 use borrow.Author.Needs.{needs}
 use Rattle.state.proofs.kept.put_delete_index.Statement.{statement}
 use Rattle.state.proofs.kept.put_delete_index.Tie as tie
 
--- src/kept.rt:36:16
 delete-place-requires : tie.Need-delete-place-requires
 delete-place-requires c κs = search needs
 
--- src/kept.rt:36:5
 put-u32-requires : tie.Need-put-u32-requires
 put-u32-requires c κs = search needs
 
--- src/kept.rt:32:1
 same-length : tie.Need-same-length
 same-length c = search needs
 
--- src/kept.rt:32:1
 returns : tie.Need-returns
 returns c = rw (c .before .before .put-u32 .ensures, c .before .before .before .delete-place .ensures)
 

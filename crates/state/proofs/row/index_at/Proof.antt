@@ -1,16 +1,14 @@
+-- `state::row::index_at` meets its contract: the number at the row's place.
 use borrow.Author.Needs.{needs}
 use Rattle.state.proofs.row.index_at.Statement.{statement}
 use Rattle.state.proofs.row.index_at.Tie as tie
 
--- src/row.rt:32:15
 row-place-requires : tie.Need-row-place-requires
 row-place-requires c κs = search needs
 
--- src/row.rt:32:5
 u32-at-requires : tie.Need-u32-at-requires
 u32-at-requires c κs = search needs
 
--- src/row.rt:28:1
 returns : tie.Need-returns
 returns c = rw (c .u32-at .ensures, c .before .row-place .ensures)
 

@@ -1,16 +1,14 @@
+-- `state::row::name_length_at` meets its contract: the number of the row at its place.
 use borrow.Author.Needs.{needs}
 use Rattle.state.proofs.row.name_length_at.Statement.{statement}
 use Rattle.state.proofs.row.name_length_at.Tie as tie
 
--- src/row.rt:47:15
 row-place-requires : tie.Need-row-place-requires
 row-place-requires c κs = search needs
 
--- src/row.rt:47:5
 name-length-in-requires : tie.Need-name-length-in-requires
 name-length-in-requires c κs = search needs
 
--- src/row.rt:43:1
 returns : tie.Need-returns
 returns c = rw (c .name-length-in .ensures, c .before .row-place .ensures)
 

@@ -1,16 +1,14 @@
+-- `state::row::status_at` meets its contract: the number of the row at its place.
 use borrow.Author.Needs.{needs}
 use Rattle.state.proofs.row.status_at.Statement.{statement}
 use Rattle.state.proofs.row.status_at.Tie as tie
 
--- src/row.rt:62:15
 row-place-requires : tie.Need-row-place-requires
 row-place-requires c κs = search needs
 
--- src/row.rt:62:5
 status-in-requires : tie.Need-status-in-requires
 status-in-requires c κs = search needs
 
--- src/row.rt:58:1
 returns : tie.Need-returns
 returns c = rw (c .status-in .ensures, c .before .row-place .ensures)
 

@@ -1,16 +1,14 @@
+-- `state::row::value_length_at` meets its contract: the number of the row at its place.
 use borrow.Author.Needs.{needs}
 use Rattle.state.proofs.row.value_length_at.Statement.{statement}
 use Rattle.state.proofs.row.value_length_at.Tie as tie
 
--- src/row.rt:54:15
 row-place-requires : tie.Need-row-place-requires
 row-place-requires c κs = search needs
 
--- src/row.rt:54:5
 value-length-in-requires : tie.Need-value-length-in-requires
 value-length-in-requires c κs = search needs
 
--- src/row.rt:50:1
 returns : tie.Need-returns
 returns c = rw (c .value-length-in .ensures, c .before .row-place .ensures)
 
