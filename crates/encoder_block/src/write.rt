@@ -58,8 +58,8 @@ fn write_field(
 }
 
 // The whole list, which reads well: the length of its block, counted up to one more than a block may have. Where `write` says so the block stands at the
-// front of the output then, and its references are entered. One function does both: a second one would repeat the loop and the proof
-// that both passes choose alike, and would save no more than the test of `write` at each field.
+// front of the output then, and its references are entered. One function does both, so that the choice of a field has one caller, into which the compiler
+// moves it, and the proof that both passes choose alike is one.
 pub fn write_list(
     m: &mut [u8],
     stream: StreamNumber,
