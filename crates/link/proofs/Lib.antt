@@ -50,3 +50,7 @@ pub mod LinkServed
 pub mod LinkClaim
 -- demand 3, entire
 pub mod Demand
+-- links that start anew: what each end starts a table with, the table's own run, and the link's claim for it
+pub mod TableStarts
+pub mod TableRuns
+pub mod TablesClaim

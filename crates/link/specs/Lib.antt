@@ -1,7 +1,8 @@
--- The claims over whole lists of calls. Claims is the file to read, with Calls and Happened before it.
+-- The claims over whole lists of calls. Claims is the file to read, with Calls and Happened before it; Anew after it, for links that start anew.
 pub mod Calls
 pub mod Happened
 pub mod Answers
 pub mod Checks
 pub mod Histories
 pub mod Claims
+pub mod Anew

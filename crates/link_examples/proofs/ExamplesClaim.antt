@@ -1,17 +1,17 @@
 -- The claim of the two examples. What is shown of the calls is computed on the model's states, and the rules are tested on what is shown.
 use mathlib.Core.Path.{_≡_, refl, sym, ap, _∙_}
-use Prim.Native.Nat.{ℕ, zero, suc}
+use Prim.Native.Nat.{ℕ}
 use native.Mathlib.Omega.{arith}
 use mathlib.Core.List.{List, map}
 use lib.ListN.{length, replicate, length-replicate}
 use Rattle.memory.specs.Bytes.{Small}
-use Rattle.memory.proofs.Overlay.{small-cons}
 use Rattle.model.specs.Events as model
 use Rattle.state.specs.Layout.{decoderLength, encoderLength}
 use Rattle.decoder.specs.Calls as decoder
 use Rattle.encoder.specs.Calls as encoder
 use Rattle.link.specs.Claims.{Ends, events, Rules, AllLinkBytes, Started}
 use Rattle.link.proofs.LinkClaim.{fresh-ends, link-claim}
+use Rattle.link.proofs.TableStarts.{encoder-starts, decoder-starts, small-zeros}
 use Rattle.link_examples.specs.Examples.{Shown, shown, callsOf, Example, life, accident, largest, ExamplesClaim}
 use Rattle.link_examples.proofs.Seen.{shown-seen}
 use Rattle.link_examples.proofs.Computing.{computed}
@@ -39,14 +39,6 @@ module _ (t : List Shown) (C : Computed t) (S : Ends) (T : Started largest S) wh
   example = record { happens = happens; rules = rules; served = link-claim .served largest S T (callsOf t) given rules }
 
 -- ---- memory that can be started
-encoder-starts : (m : List ℕ) → length m ≡ encoderLength → encoder.startCall m 4096 .answer .number ≡ 0
-unfolding encoder.startCall
-encoder-starts m e = rw e refl
-
-decoder-starts : (m : List ℕ) → length m ≡ decoderLength → decoder.startCall m 4096 .answer .number ≡ 0
-unfolding decoder.startCall
-decoder-starts m e = rw e refl
-
 starts : (m n : List ℕ) → Small m → Small n → length m ≡ encoderLength → length n ≡ decoderLength → (S : Ends) × Started largest S
 starts m n small-m small-n e d = (
   record { encoder = encoder.startCall m 4096 .memory; decoder = decoder.startCall n 4096 .memory },
@@ -55,8 +47,8 @@ starts m n small-m small-n e d = (
     decoder-memory = n;
     encoder-small = small-m;
     decoder-small = small-n;
-    encoder-done = encoder-starts m e;
-    decoder-done = decoder-starts n d;
+    encoder-done = encoder-starts m 4096 (omega arith) e;
+    decoder-done = decoder-starts n 4096 (omega arith) d;
     encoder-is = refl;
     decoder-is = refl;
     limits = omega arith;
@@ -64,10 +56,6 @@ starts m n small-m small-n e d = (
 )
 
 -- zeros, of the least lengths
-small-zeros : (n : ℕ) → Small (replicate n 0)
-small-zeros zero = λ k. omega arith
-small-zeros (suc n) = small-cons 0 (replicate n 0) (omega arith) (small-zeros n)
-
 started : (S : Ends) × Started largest S
 started =
     starts (replicate encoderLength 0) (replicate decoderLength 0) (small-zeros encoderLength) (small-zeros decoderLength)
