@@ -1,4 +1,4 @@
-# The C library, its header and the example host. `make` proves what is not proved yet and builds the library from the proved crates.
+# The C library, its headers and the example host. `make` proves what is not proved yet and builds the library from the proved crates.
 PREFIX ?= /usr/local
 CC ?= cc
 CFLAGS ?= -O2
@@ -6,7 +6,8 @@ WARNINGS = -std=c11 -Wall -Wextra -pedantic
 
 VERSION = 1.0.0
 LIBRARY = target/staticlib/libkolowrotan.a
-HEADER = include/kolowrotan.h
+HEADERS = include/kolowrotan.h include/kolowrotan_list.h
+DIST = kolowrotan-$(VERSION)
 SOURCES := $(shell find crates -name '*.rt' -o -name '*.antt') crates.txt
 
 all: $(LIBRARY)
@@ -18,17 +19,34 @@ $(LIBRARY): $(SOURCES)
 # The example radio host.
 host: target/host/host
 
-target/host/host: $(wildcard host/*.c host/*.h) $(HEADER) $(LIBRARY)
+target/host/host: $(wildcard host/*.c host/*.h) $(HEADERS) $(LIBRARY)
 	mkdir -p target/host
 	$(CC) $(WARNINGS) $(CFLAGS) -Iinclude -o $@ host/*.c $(LIBRARY)
 
-install: $(LIBRARY)
+install: install-library
+
+# What a C program needs.
+install-library: $(LIBRARY)
 	install -d $(DESTDIR)$(PREFIX)/include $(DESTDIR)$(PREFIX)/lib/pkgconfig
-	install -m 644 $(HEADER) $(DESTDIR)$(PREFIX)/include/
+	install -m 644 $(HEADERS) $(DESTDIR)$(PREFIX)/include/
 	install -m 644 $(LIBRARY) $(DESTDIR)$(PREFIX)/lib/
 	sed -e 's,@PREFIX@,$(PREFIX),' -e 's,@VERSION@,$(VERSION),' kolowrotan.pc.in > $(DESTDIR)$(PREFIX)/lib/pkgconfig/kolowrotan.pc
 
-clean:
-	rm -rf target/host target/staticlib
+# An archive for C programmers who have no Rattle kit. It can be unpacked anywhere: its pkg-config file tells the place where it lies itself. The same
+# files always make the same archive.
+dist: $(LIBRARY)
+	rm -rf target/dist
+	$(MAKE) --no-print-directory install-library DESTDIR= PREFIX=target/dist/$(DIST)
+	sed -e 's,@PREFIX@,$${pcfiledir}/../..,' -e 's,@VERSION@,$(VERSION),' kolowrotan.pc.in > target/dist/$(DIST)/lib/pkgconfig/kolowrotan.pc
+	install -d target/dist/$(DIST)/docs target/dist/$(DIST)/host
+	install -m 644 docs/HOST.md docs/CLAIMS.md target/dist/$(DIST)/docs/
+	install -m 644 host/* target/dist/$(DIST)/host/
+	sed -n '/^```c$$/,/^```$$/p' README.md | sed -e '/^```/d' > target/dist/$(DIST)/example.c
+	chmod -R u=rwX,go=rX target/dist/$(DIST)
+	tar --sort=name --mtime=@0 --owner=0 --group=0 --numeric-owner -C target/dist -cf target/dist/$(DIST).tar $(DIST)
+	gzip -n target/dist/$(DIST).tar
 
-.PHONY: all host install clean
+clean:
+	rm -rf target/host target/staticlib target/dist
+
+.PHONY: all host install install-library dist clean

@@ -3,10 +3,14 @@
 #include <stdio.h>
 #include <stdlib.h>
 
-static void take_quietly(void *context, uint32_t stream, const struct report *report)
+static unsigned inserts, refused, freed, lost, waited;
+
+static void tell_quietly(const struct frame *frame, const struct outcome *outcome)
 {
-    (void)context;
-    compare(stream, report);
+    if (outcome->fate == FATE_WAITS)
+        waited++;
+    if (outcome->fate == FATE_DONE)
+        compare(frame, outcome->fields);
 }
 
 /* A small generator, so that every run is the same. */
@@ -25,7 +29,7 @@ static uint32_t chance(uint32_t below)
 static struct flight {
     int used, lost;
     unsigned arrives;
-    struct message message;
+    struct frame frame;
 } flights[FLIGHTS];
 
 static struct flight *free_flight(void)
@@ -42,8 +46,6 @@ struct loader {
     struct report report;
     uint32_t turns_index, machine_index; /* 0: no entry */
 };
-
-static unsigned inserts, refused, freed, lost;
 
 static void keep(uint32_t *index, const char *name, const char *value)
 {
@@ -80,8 +82,7 @@ static void send(struct loader *loader, uint32_t stream, unsigned now)
     keep(&loader->machine_index, "machine", loader->report.machine);
 
     struct flight *flight = free_flight();
-    sent[stream] = loader->report;
-    sender_report(&sender, &loader->report, stream, &flight->message);
+    send_report(&loader->report, stream, &flight->frame);
     flight->used = 1;
     flight->lost = chance(16) == 0;
     flight->arrives = now + (flight->lost ? LONGEST_FLIGHT : chance(LONGEST_FLIGHT));
@@ -97,52 +98,50 @@ static void arrive(unsigned now)
         flight->used = 0;
         if (flight->lost) {
             lost++;
-            receiver_reset(&receiver, flight->message.stream);
-        } else {
-            receiver_message(&receiver, &flight->message, take_quietly, NULL);
+            flight->frame.kind = FRAME_RESET;
         }
+        receiver_frame(&receiver, &flight->frame);
     }
 }
 
 /* Management bytes come slowly and cut anywhere, acknowledgements likewise. */
-static void trickle(struct bytes *acknowledgements, size_t most)
+static void trickle(size_t most)
 {
-    size_t count = sender.management.length < most ? sender.management.length : most;
-    receiver_manage(&receiver, sender.management.data, count, take_quietly, NULL);
-    bytes_take(&sender.management, count);
-    freed += receiver_collect(&receiver, acknowledgements);
-    if (acknowledgements->length != 0 && chance(3) == 0) {
-        sender_acknowledge(&sender, acknowledgements->data, acknowledgements->length);
-        acknowledgements->length = 0;
+    struct frame frame;
+    sender_manage(&sender, &frame, most);
+    receiver_frame(&receiver, &frame);
+    freed += receiver_collect(&receiver);
+    if (receiver.acknowledgements.length != 0 && chance(3) == 0) {
+        receiver_acknowledge(&receiver, &frame);
+        sender_frame(&sender, &frame);
     }
 }
 
 void long_run(void)
 {
-    static struct bytes acknowledgements;
     struct loader loaders[2] = {{{"L-17", 2, 4100}, 0, 0}, {{"L-42", 0, 4100}, 0, 0}};
     printf("-- %u reports over a radio that delays, reorders and loses them\n", (unsigned)REPORTS);
-    start(320);
+    start(320, tell_quietly);
     decoded = 0;
     for (unsigned now = 0; now < REPORTS + 4 * LONGEST_FLIGHT; now++) {
         if (now < REPORTS)
             send(&loaders[chance(2)], now, now);
         arrive(now);
-        trickle(&acknowledgements, now < REPORTS ? chance(16) : 16);
+        trickle(now < REPORTS ? chance(16) : 16);
     }
     for (unsigned i = 0; i < 2; i++) {
         forget(&loaders[i].turns_index);
         forget(&loaders[i].machine_index);
     }
     while (sender.management.length != 0)
-        trickle(&acknowledgements, 16);
+        trickle(16);
     for (unsigned i = 0; i < 2; i++) {
         printf("sender: ");
-        print_hours(&loaders[i].report);
+        show_hours(&loaders[i].report);
         printf("\n");
     }
     printf("receiver: %u reports decoded, %u given up, %u offers told to wait, %u still waiting\n", decoded, lost,
-           receiver.waited, receiver.waiting_count);
+           waited, receiver.waiting_count);
     printf("tables: %u entries inserted, %u freed, %u inserts refused for the limit\n", inserts, freed, refused);
     if (decoded + lost != REPORTS || receiver.waiting_count != 0 || inserts != freed)
         wrong++;

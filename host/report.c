@@ -3,80 +3,88 @@
 #include <stdio.h>
 #include <string.h>
 
-/* A length: groups of seven bits, the low group first. Names and values here are shorter than 128, so there is one group. */
-static size_t put_text(uint8_t *list, size_t at, const char *text)
+static int put_number(struct kolowrotan_list *list, const char *name, uint32_t number)
 {
-    size_t length = strlen(text);
-    list[at++] = (uint8_t)length;
-    memcpy(list + at, text, length);
-    return at + length;
+    char digits[16];
+    snprintf(digits, sizeof digits, "%u", (unsigned)number);
+    return kolowrotan_put_text(list, 0, name, digits);
 }
 
-static size_t put_field(uint8_t *list, size_t at, const char *name, const char *value)
+int report_to_list(const struct report *report, struct kolowrotan_list *list)
 {
-    list[at++] = 0;
-    at = put_text(list, at, name);
-    return put_text(list, at, value);
+    return kolowrotan_put_text(list, 0, "machine", report->machine) && put_number(list, "hours", report->counter)
+        && put_number(list, "turns", report->turns);
 }
 
-size_t report_to_list(const struct report *report, uint8_t *list)
-{
-    char number[16];
-    size_t at = put_field(list, 0, "machine", report->machine);
-    snprintf(number, sizeof number, "%u", (unsigned)report->counter);
-    at = put_field(list, at, "hours", number);
-    snprintf(number, sizeof number, "%u", (unsigned)report->turns);
-    return put_field(list, at, "turns", number);
-}
+/* A field that a report has, and the words for what can be wrong with it. */
+struct wanted {
+    const char *name, *missing, *twice, *wrong;
+};
 
-/* The text at a place of a list that the decoder wrote, so it is whole. Answers the place after it. */
-static size_t take_text(const uint8_t *list, size_t at, const uint8_t **text, size_t *length)
-{
-    *length = list[at] & 0x7F;
-    if (list[at++] & 0x80)
-        *length += (size_t)list[at++] << 7;
-    *text = list + at;
-    return at + *length;
-}
+static const struct wanted machine = {"machine", "machine missing", "machine more than once",
+                                      "machine not 1 to 15 printable characters"};
+static const struct wanted hours = {"hours", "hours missing", "hours more than once", "hours not a number of 0 to 65535"};
+static const struct wanted turns = {"turns", "turns missing", "turns more than once", "turns not a number of 0 to 65535"};
 
-static int is_name(const uint8_t *text, size_t length, const char *name)
+/* The one field of this name. Answers null, or that there is not exactly one. */
+static const char *find(struct kolowrotan_cursor fields, const struct wanted *wanted, struct kolowrotan_field *found)
 {
-    return length == strlen(name) && memcmp(text, name, length) == 0;
-}
-
-static int take_number(const uint8_t *text, size_t length, uint32_t *number)
-{
-    if (length == 0 || 5 < length)
-        return 0;
-    *number = 0;
-    for (size_t i = 0; i < length; i++) {
-        if (text[i] < '0' || '9' < text[i])
-            return 0;
-        *number = *number * 10 + (uint32_t)(text[i] - '0');
-    }
-    return *number <= 65535;
-}
-
-int report_from_list(const uint8_t *list, size_t length, struct report *report)
-{
-    int machine = 0, hours = 0, turns = 0;
-    size_t at = 0;
-    while (at < length) {
-        const uint8_t *name, *value;
-        size_t name_length, value_length;
-        at = take_text(list, at + 1, &name, &name_length);
-        at = take_text(list, at, &value, &value_length);
-        if (is_name(name, name_length, "machine") && value_length < sizeof report->machine) {
-            memcpy(report->machine, value, value_length);
-            report->machine[value_length] = 0;
-            machine = 1;
-        } else if (is_name(name, name_length, "hours")) {
-            hours = take_number(value, value_length, &report->counter);
-        } else if (is_name(name, name_length, "turns")) {
-            turns = take_number(value, value_length, &report->turns);
+    struct kolowrotan_field field;
+    unsigned count = 0;
+    while (kolowrotan_next_field(&fields, &field)) {
+        if (kolowrotan_named(&field, wanted->name)) {
+            *found = field;
+            count++;
         }
     }
-    return machine && hours && turns;
+    if (count == 0)
+        return wanted->missing;
+    return count == 1 ? NULL : wanted->twice;
+}
+
+static const char *take_machine(struct kolowrotan_cursor fields, struct report *report)
+{
+    struct kolowrotan_field field;
+    const char *unclear = find(fields, &machine, &field);
+    if (unclear != NULL)
+        return unclear;
+    if (field.value_length == 0 || sizeof report->machine <= field.value_length)
+        return machine.wrong;
+    for (size_t i = 0; i < field.value_length; i++)
+        if (field.value[i] < 0x20 || 0x7E < field.value[i])
+            return machine.wrong;
+    memcpy(report->machine, field.value, field.value_length);
+    report->machine[field.value_length] = 0;
+    return NULL;
+}
+
+static const char *take_number(struct kolowrotan_cursor fields, const struct wanted *wanted, uint32_t *number)
+{
+    struct kolowrotan_field field;
+    const char *unclear = find(fields, wanted, &field);
+    if (unclear != NULL)
+        return unclear;
+    if (field.value_length == 0)
+        return wanted->wrong;
+    *number = 0;
+    for (size_t i = 0; i < field.value_length; i++) {
+        if (field.value[i] < '0' || '9' < field.value[i])
+            return wanted->wrong;
+        *number = *number * 10 + (uint32_t)(field.value[i] - '0');
+        if (65535 < *number)
+            return wanted->wrong;
+    }
+    return NULL;
+}
+
+const char *report_from_fields(struct kolowrotan_cursor fields, struct report *report)
+{
+    const char *unclear = take_machine(fields, report);
+    if (unclear == NULL)
+        unclear = take_number(fields, &hours, &report->counter);
+    if (unclear == NULL)
+        unclear = take_number(fields, &turns, &report->turns);
+    return unclear;
 }
 
 uint64_t report_tenths(const struct report *report)

@@ -2,18 +2,34 @@
 
 #include <string.h>
 
-void sender_start(struct sender *sender, uint64_t limit)
+#include "kolowrotan_list.h"
+
+static void break_link(struct sender *sender, const char *what, int answer)
 {
+    sender->fault.what = what;
+    sender->fault.answer = answer;
+}
+
+int sender_start(struct sender *sender, uint64_t limit)
+{
+    /* before the call: a number that was tried is never used again, whatever becomes of it */
+    sender->number++;
+    bytes_start(&sender->management);
+    bytes_start(&sender->acknowledgements);
     uint64_t result = kolowrotan_encoder_start(sender->table, sizeof sender->table, limit);
-    if (KOLOWROTAN_ANSWER(result) != KOLOWROTAN_DONE)
-        unexpected("encoder start", result);
-    sender->management.length = 0;
-    sender->acknowledgements.length = 0;
+    if (KOLOWROTAN_ANSWER(result) != KOLOWROTAN_DONE) {
+        break_link(sender, "encoder start", KOLOWROTAN_ANSWER(result));
+        return 0;
+    }
+    sender->fault.what = NULL;
+    return 1;
 }
 
 uint32_t sender_insert(struct sender *sender, const char *name, const char *value)
 {
     uint8_t output[KOLOWROTAN_INSERT_ROOM];
+    if (sender->fault.what != NULL)
+        return 0;
     uint64_t result = kolowrotan_encoder_insert(sender->table, sizeof sender->table, (const uint8_t *)name, strlen(name),
                                                 (const uint8_t *)value, strlen(value), output, sizeof output);
     switch (KOLOWROTAN_ANSWER(result)) {
@@ -32,26 +48,63 @@ uint32_t sender_insert(struct sender *sender, const char *name, const char *valu
 void sender_delete(struct sender *sender, uint32_t index)
 {
     uint8_t output[KOLOWROTAN_DELETE_ROOM];
+    if (sender->fault.what != NULL)
+        return;
     uint64_t result = kolowrotan_encoder_delete(sender->table, sizeof sender->table, index, output, sizeof output);
     if (KOLOWROTAN_ANSWER(result) != KOLOWROTAN_DONE)
         unexpected("encoder delete", result);
     bytes_append(&sender->management, output, KOLOWROTAN_FIRST(result));
 }
 
-void sender_report(struct sender *sender, const struct report *report, uint32_t stream, struct message *message)
+int sender_report(struct sender *sender, const struct report *report, uint32_t stream, struct frame *frame)
 {
-    uint8_t list[REPORT_LIST_ROOM];
-    size_t length = report_to_list(report, list);
-    uint64_t result = kolowrotan_encoder_block(sender->table, sizeof sender->table, stream, KOLOWROTAN_NONTRAILER, list,
-                                               length, message->block, sizeof message->block);
+    uint8_t lent[REPORT_LIST_ROOM];
+    struct kolowrotan_list list = kolowrotan_empty_list(lent, sizeof lent);
+    if (sender->fault.what != NULL)
+        return 0;
+    report_to_list(report, &list);
+    uint64_t result = kolowrotan_encoder_block(sender->table, sizeof sender->table, stream, KOLOWROTAN_NONTRAILER,
+                                               list.bytes, list.length, frame->bytes, sizeof frame->bytes);
     if (KOLOWROTAN_ANSWER(result) != KOLOWROTAN_DONE)
         unexpected("encoder block", result);
-    message->stream = stream;
-    message->length = KOLOWROTAN_FIRST(result);
+    frame->kind = FRAME_BLOCK;
+    frame->table = sender->number;
+    frame->at = stream;
+    frame->length = KOLOWROTAN_FIRST(result);
+    return 1;
 }
 
-unsigned sender_acknowledge(struct sender *sender, const uint8_t *data, size_t length)
+void sender_manage(struct sender *sender, struct frame *frame, size_t most)
 {
-    bytes_append(&sender->acknowledgements, data, length);
-    return bytes_read(&sender->acknowledgements, kolowrotan_encoder_acknowledge, sender->table, sizeof sender->table);
+    frame_cut(frame, FRAME_MANAGEMENT, sender->number, &sender->management, sender->fault.what == NULL ? most : 0);
+}
+
+/* Acknowledgement bytes of this table. */
+static enum fate acknowledge(struct sender *sender, const struct frame *frame)
+{
+    enum fate fate = frame_append(frame, &sender->acknowledgements);
+    if (fate == FATE_BREAKS)
+        break_link(sender, "acknowledgement bytes are missing", KOLOWROTAN_DONE);
+    if (fate != FATE_READ)
+        return fate;
+    int answer = bytes_read(&sender->acknowledgements, kolowrotan_encoder_acknowledge, sender->table, sizeof sender->table);
+    if (answer != KOLOWROTAN_DONE) {
+        break_link(sender, "acknowledgement", answer);
+        return FATE_BREAKS;
+    }
+    return FATE_READ;
+}
+
+enum fate sender_frame(struct sender *sender, const struct frame *frame)
+{
+    if (frame->table < sender->number)
+        return FATE_OLDER;
+    if (sender->fault.what != NULL)
+        return FATE_BROKEN;
+    /* nothing can be acknowledged of a table that this end, which starts each table first, has not started */
+    if (sender->number < frame->table || frame->kind != FRAME_ACKNOWLEDGEMENT) {
+        break_link(sender, "no acknowledgement of a table that was started", KOLOWROTAN_DONE);
+        return FATE_BREAKS;
+    }
+    return acknowledge(sender, frame);
 }

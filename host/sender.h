@@ -2,24 +2,27 @@
 #ifndef SENDER_H
 #define SENDER_H
 
-#include "bytes.h"
+#include "frame.h"
 #include "kolowrotan.h"
 #include "report.h"
 
-/* A header block on its way, under its stream. */
-struct message {
-    uint32_t stream;
-    size_t length;
-    uint8_t block[256];
-};
-
 struct sender {
     uint8_t table[KOLOWROTAN_ENCODER_LENGTH];
-    struct bytes management;      /* written and not sent yet */
+    /*
+     * The table's number, 0 before the first start of the link. It goes up at every start and never down. A device that reboots loses
+     * the table and must not lose this: it stands in memory that survives, or comes from a clock that never goes back.
+     */
+    uint32_t number;
+    struct fault fault;
+    struct bytes management;       /* written and not sent yet */
     struct bytes acknowledgements; /* received and not read yet */
 };
 
-void sender_start(struct sender *sender, uint64_t limit);
+/*
+ * Starts anew, with the next number. Answers 0 where the start is refused: the link is broken. On a broken link nothing below does
+ * anything.
+ */
+int sender_start(struct sender *sender, uint64_t limit);
 
 /* Puts an entry into the table. Answers its index, or 0 where the table has no room for it now: fields are then sent as literals. */
 uint32_t sender_insert(struct sender *sender, const char *name, const char *value);
@@ -27,10 +30,13 @@ uint32_t sender_insert(struct sender *sender, const char *name, const char *valu
 /* Puts an entry under deletion. */
 void sender_delete(struct sender *sender, uint32_t index);
 
-/* Writes a report as the block of a stream. */
-void sender_report(struct sender *sender, const struct report *report, uint32_t stream, struct message *message);
+/* Writes a report as the block of a stream. Answers 0 where the link is broken: there is no frame then. */
+int sender_report(struct sender *sender, const struct report *report, uint32_t stream, struct frame *frame);
 
-/* Acknowledgement bytes have come. Answers how many entries are gone by them. */
-unsigned sender_acknowledge(struct sender *sender, const uint8_t *data, size_t length);
+/* Cuts a frame of at most `most` management bytes. It has no bytes where there are none to send. */
+void sender_manage(struct sender *sender, struct frame *frame, size_t most);
+
+/* A frame of acknowledgement bytes has come. */
+enum fate sender_frame(struct sender *sender, const struct frame *frame);
 
 #endif

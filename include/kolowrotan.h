@@ -5,7 +5,8 @@
  * blocks refer to by index. The encoder fills the table of the decoder by management bytes; the decoder gives entries back by
  * acknowledgement bytes. Every call below is proved to do what docs/CLAIMS.md says, for every input, refusals too.
  *
- * docs/HOST.md is the guide; docs/STATE.md has the state memory byte by byte.
+ * kolowrotan_list.h puts field lists together and takes them apart. docs/HOST.md is the guide; docs/STATE.md has the state memory byte
+ * by byte.
  *
  * WHAT THE HOST OWES
  *
@@ -13,6 +14,13 @@
  *   - The buffers of one call do not overlap.
  *   - Nobody else reads or writes them while the call runs, and nobody writes the memory of a table between calls. Calls on
  *     different memories may run at the same time.
+ *   - What was written for one table reaches no other. An end that starts anew has a new table: blocks and bytes of the one before are
+ *     never given to it, and those of a table that this end has not started yet are never given to the one that it has. No byte is read
+ *     twice, and no block is offered again once it was answered 0. The host keeps tables apart by a number on all that is sent, or drains
+ *     the link before a start (docs/HOST.md, "Starting anew"). No call can tell a late block of another table: it is decoded to the
+ *     fields of another machine, and answered 0.
+ *   - After a start that is refused, and after a read or an acknowledge that is refused with another answer than 2, nothing more is given
+ *     to either end before both have started anew.
  *
  * WHAT EVERY CALL KEEPS
  *
@@ -99,7 +107,9 @@ size_t kolowrotan_encoder_length(void);
 /* ---- decoder ---- */
 
 /*
- * Makes a fresh decoder's table with this limit in the memory, whatever stood there.
+ * Makes a fresh decoder's table with this limit in the memory, whatever stood there. Nothing that was written for a table before it may be
+ * given to it, neither blocks nor management bytes, and nothing that the encoder writes for it may be given to the table before it:
+ * docs/HOST.md, "Starting anew". A refused start leaves the old table in the memory; do not go on with that.
  * Answers: 7 limit above 4,096; 12 memory shorter than KOLOWROTAN_DECODER_LENGTH; 0.
  */
 uint64_t kolowrotan_decoder_start(uint8_t *memory, size_t memory_length, uint64_t limit);
@@ -113,7 +123,9 @@ uint64_t kolowrotan_decoder_read(uint8_t *memory, size_t memory_length, const ui
 
 /*
  * Decodes a header block of a part of a stream: its field list is written to the output, and the part is finished. First told: the
- * bytes written; on 1 the index that it waits for, the first in byte order. On 1 keep the block and offer it again later.
+ * bytes written, on 0 alone. On 1 it is the index that the block waits for, the first in byte order, and no length: the output still holds
+ * what stood there before, perhaps another block's fields. Keep the block and offer it again later. kolowrotan_fields of
+ * kolowrotan_list.h takes the result and gives no field unless it is 0.
  * Answers: 17; 11; 13 a block above 16,384 bytes; the first of 2, 3, 4, 5, 13 met in the bytes, left to right; 1; 12; 0.
  */
 uint64_t kolowrotan_decoder_block(uint8_t *memory, size_t memory_length, uint64_t stream, uint64_t part,
@@ -143,7 +155,9 @@ uint64_t kolowrotan_decoder_hold(const uint8_t *memory, size_t memory_length, ui
 /* ---- encoder ---- */
 
 /*
- * Makes a fresh encoder's table with this limit in the memory, whatever stood there. The limit must not be above the decoder's.
+ * Makes a fresh encoder's table with this limit in the memory, whatever stood there. The limit must not be above the decoder's. No
+ * acknowledgement of a table before it may be given to it, and nothing that it writes may be given to a decoder that has not started anew
+ * too: docs/HOST.md, "Starting anew". A refused start leaves the old table in the memory; do not go on with that.
  * Answers: 7 limit above 4,096; 12 memory shorter than KOLOWROTAN_ENCODER_LENGTH; 0.
  */
 uint64_t kolowrotan_encoder_start(uint8_t *memory, size_t memory_length, uint64_t limit);

@@ -8,6 +8,7 @@
 
 #include "calls.h"
 #include "kolowrotan.h"
+#include "lists.h"
 
 /* Bytes lent past what a table needs. */
 #define BEYOND 100
@@ -274,6 +275,7 @@ int main(int count, char **arguments)
     inserts();
     deletes();
     encoder_blocks();
+    lists();
     printf("library: %u checks, %u failures\n", checks, failures);
     return failures != 0;
 }

@@ -1,0 +1,8 @@
+#include "parts.h"
+
+int main(void)
+{
+    reports();
+    links();
+    return 0;
+}
