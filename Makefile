@@ -23,7 +23,18 @@ target/host/host: $(wildcard host/*.c host/*.h) $(HEADERS) $(LIBRARY)
 	mkdir -p target/host
 	$(CC) $(WARNINGS) $(CFLAGS) -Iinclude -o $@ host/*.c $(LIBRARY)
 
-install: install-library
+# The program that bin/gateway runs.
+gateway: target/bin/gateway
+
+target/bin/gateway: $(SOURCES)
+	rt check gateway
+	touch $@
+
+install: install-library target/bin/gateway
+	install -d $(DESTDIR)$(PREFIX)/bin $(DESTDIR)$(PREFIX)/libexec/kolowrotan $(DESTDIR)$(PREFIX)/share/kolowrotan
+	install -m 755 bin/gateway $(DESTDIR)$(PREFIX)/bin/
+	install -m 755 target/bin/gateway $(DESTDIR)$(PREFIX)/libexec/kolowrotan/
+	install -m 644 crates/gateway/data/accident.rec $(DESTDIR)$(PREFIX)/share/kolowrotan/
 
 # What a C program needs.
 install-library: $(LIBRARY)
@@ -49,4 +60,4 @@ dist: $(LIBRARY)
 clean:
 	rm -rf target/host target/staticlib target/dist
 
-.PHONY: all host install install-library dist clean
+.PHONY: all host gateway install install-library dist clean

@@ -1,65 +1,192 @@
 // One recording: its lines, one after another, on two memories.
+ghost use lib.ListN.{length};
+ghost use Rattle.text_io.specs.Lines.{Inside};
+use link_state::ends::more;
+use link_state::notes::NOTES;
+use machines::falls::RECORDS;
+use recorded_lines::LINE_BYTES;
 use recorded_lines::Ran;
 use recorded_lines::run_next;
+use text_io::incomplete::Why;
+use text_io::incomplete::incomplete;
 use text_io::lines::Reader;
-use transcript::tally::Tally;
-use transcript::tell::bad_line;
-use transcript::tell::summary;
-use transcript::tell::tell;
+use text_io::print::Text;
+use transcript::calls::answered;
+use transcript::calls::bad;
+use transcript::finish::finish;
+use transcript::log::Log;
 
-pub fn run(fd: i32) {
+// Runs a recording from fresh memory, and answers whether the output could be written.
+pub fn run(fd: i32) -> bool {
     let mut input = io::large_buffer();
+    let mut bytes = [0u8; LINE_BYTES];
     let mut decoder = io::large_buffer();
     let mut encoder = io::large_buffer();
     let mut output = io::large_buffer();
     let mut text = io::large_buffer();
+    let mut notes = [0u64; NOTES];
+    let mut machines = [0u64; RECORDS];
     run_lines(
         fd,
         &mut input,
+        &mut bytes,
         &mut decoder,
         &mut encoder,
         &mut output,
         &mut text,
-    );
+        &mut notes,
+        &mut machines,
+    )
 }
 
-// Runs the lines, and prints how many there were. A line's number is counted as it is read.
+// Why no further line is run: there is none, it could not be read, or the transcript could not be written; or that there is no reason.
+enum Stop {
+    Going,
+    End,
+    NotRead,
+    NotWritten,
+}
+
+// A line that was run and told: whether to stop, what is still to be read, and what was told so far.
+struct Stepped {
+    stop: Stop,
+    rest: Reader,
+    log: Log,
+}
+
+// Runs the lines, and ends the transcript. A line's number is counted as it is read.
 fn run_lines(
     fd: i32,
     input: &mut [u8],
+    bytes: &mut [u8],
     decoder: &mut [u8],
     encoder: &mut [u8],
     output: &mut [u8],
     text: &mut [u8],
-) {
+    notes: &mut [u64; NOTES],
+    machines: &mut [u64; RECORDS],
+) -> bool {
     let mut reader = Reader::new();
-    let mut tally = Tally::new();
+    let mut log = Log::new();
     let mut number: u64 = 0;
     while number < u64::MAX {
-        let turn = run_next(fd, input, reader, decoder, encoder, output);
-        let ran = turn.ran;
-        if let Ran::End = ran {
-            summary(text, number, tally);
-            return;
+        let s = step(
+            fd,
+            input,
+            reader,
+            number + 1,
+            bytes,
+            decoder,
+            encoder,
+            output,
+            text,
+            log,
+            notes,
+            machines,
+        );
+        let stop = s.stop;
+        reader = s.rest;
+        log = s.log;
+        if stops(stop) {
+            return stopped(stop, number, text, log, notes, machines);
         }
-        reader = turn.rest;
         number += 1;
-        tally = told(ran, number, output, text, tally);
+    }
+    true
+}
+
+// Runs the next line, and tells what became of it.
+fn step(
+    fd: i32,
+    input: &mut [u8],
+    reader: Reader,
+    line: u64,
+    bytes: &mut [u8],
+    decoder: &mut [u8],
+    encoder: &mut [u8],
+    output: &mut [u8],
+    text: &mut [u8],
+    log: Log,
+    notes: &mut [u64; NOTES],
+    machines: &mut [u64; RECORDS],
+) -> Stepped
+    requires { ⌜ Inside (length (now input)) reader ⌝ }
+    ensures { λ s. ⌜ Inside (length (now (input .exit))) (s .rest) ⌝ }
+{
+    let turn = run_next(fd, input, reader, bytes, decoder, encoder, output);
+    let ran = turn.ran;
+    let rest = turn.rest;
+    let next = told(ran, line, bytes, output, text, log, notes, machines);
+    Stepped {
+        stop: stop_of(ran, next.text.lost),
+        rest,
+        log: next,
     }
 }
 
-// Tells what became of a line, and counts it.
-fn told(ran: Ran, number: u64, output: &[u8], text: &mut [u8], tally: Tally) -> Tally {
+// Tells what became of a line.
+fn told(
+    ran: Ran,
+    number: u64,
+    bytes: &[u8],
+    output: &[u8],
+    text: &mut [u8],
+    log: Log,
+    notes: &mut [u64; NOTES],
+    machines: &mut [u64; RECORDS],
+) -> Log {
     match ran {
-        Ran::Comment | Ran::End => tally,
-        Ran::Bad(fault) => {
-            bad_line(text, number, fault);
-            tally.with_bad()
-        }
+        Ran::Comment | Ran::End | Ran::Failed => log,
+        Ran::Bad(fault) => bad(text, log, number, fault),
         Ran::Answered(call, r) => {
-            tell(text, call, r, output);
-            let kind = call.kind;
-            tally.with_call(kind, r.number)
+            answered(text, log, number, call, r, bytes, output, notes, machines)
         }
     }
+}
+
+fn stop_of(ran: Ran, lost: bool) -> Stop {
+    if lost {
+        return Stop::NotWritten;
+    }
+    match ran {
+        Ran::Comment | Ran::Bad(_) | Ran::Answered(_, _) => Stop::Going,
+        Ran::End => Stop::End,
+        Ran::Failed => Stop::NotRead,
+    }
+}
+
+fn stops(stop: Stop) -> bool {
+    if let Stop::Going = stop { false } else { true }
+}
+
+// Ends the transcript after so many lines, and answers whether it could be written.
+fn stopped(
+    stop: Stop,
+    number: u64,
+    text: &mut [u8],
+    log: Log,
+    notes: &[u64; NOTES],
+    machines: &[u64; RECORDS],
+) -> bool {
+    match stop {
+        Stop::Going => true,
+        Stop::End => ended(finish(text, log, number, notes, machines), number),
+        Stop::NotRead => break_off(more(number), Why::NotRead, true),
+        Stop::NotWritten => break_off(more(number), Why::NotWritten, false),
+    }
+}
+
+// Was the end of the transcript written?
+fn ended(t: Text, number: u64) -> bool {
+    if t.lost {
+        return break_off(number, Why::NotWritten, false);
+    }
+    true
+}
+
+// Says that the transcript is not complete, as its last line and on standard error, and answers whether the output could be written.
+pub fn break_off(line: u64, why: Why, written: bool) -> bool {
+    incomplete(libc::STDOUT_FILENO, line, why);
+    incomplete(libc::STDERR_FILENO, line, why);
+    written
 }

@@ -1,27 +1,28 @@
 // Words for what the programs tell: answers, calls, parts and faults. A table of words is a text with a line for each number from 0 on.
 use recording::Fault;
 use recording::Kind;
+use text_io::print::Text;
 use text_io::print::number;
 use text_io::print::words;
 use tokens::hex::line_end;
 
 // Line `k` of a table.
-pub fn entry(text: &mut [u8], n: usize, table: &[u8], k: usize) -> usize {
+pub fn entry(out: &mut [u8], t: Text, table: &[u8], k: usize) -> Text {
     let mut left = k;
     let mut at: usize = 0;
     while at < table.len() {
         let end = line_end(table, at);
         if left == 0 {
-            return words(text, n, &table[at..end]);
+            return words(out, t, &table[at..end]);
         }
         left -= 1;
         at = end + 1;
     }
-    n
+    t
 }
 
 // Document 01's numbered table, shortened.
-pub fn answer_name(text: &mut [u8], n: usize, answer: u8) -> usize {
+pub fn answer_name(out: &mut [u8], t: Text, answer: u8) -> Text {
     let table = b"done\n\
         vacant index\n\
         bytes end too early\n\
@@ -40,11 +41,11 @@ pub fn answer_name(text: &mut [u8], n: usize, answer: u8) -> usize {
         all places held\n\
         field list not in its form\n\
         memory forms no state\n";
-    entry(text, n, table, answer as usize)
+    entry(out, t, table, answer as usize)
 }
 
 // What a call of each kind is about.
-pub fn kind_name(text: &mut [u8], n: usize, kind: Kind) -> usize {
+pub fn kind_name(out: &mut [u8], t: Text, kind: Kind) -> Text {
     let table = b"decoder start\n\
         management\n\
         block\n\
@@ -56,7 +57,7 @@ pub fn kind_name(text: &mut [u8], n: usize, kind: Kind) -> usize {
         encoder delete\n\
         encoder block\n\
         acknowledgement\n";
-    entry(text, n, table, kind_number(kind))
+    entry(out, t, table, kind_number(kind))
 }
 
 fn kind_number(kind: Kind) -> usize {
@@ -76,30 +77,30 @@ fn kind_number(kind: Kind) -> usize {
 }
 
 // A part of a stream by its number.
-pub fn part_name(text: &mut [u8], n: usize, part: u64) -> usize {
+pub fn part_name(out: &mut [u8], t: Text, part: u64) -> Text {
     if part < 2 {
-        return entry(text, n, b"message\ntrailer\n", part as usize);
+        return entry(out, t, b"message\ntrailer\n", part as usize);
     }
-    let a = words(text, n, b"part ");
-    number(text, a, part)
+    let a = words(out, t, b"part ");
+    number(out, a, part)
 }
 
 // That the line of this number is no call.
-pub fn not_a_call(text: &mut [u8], n: usize, line: u64) -> usize {
-    let a = words(text, n, b"line ");
-    let b = number(text, a, line);
-    words(text, b, b": not a call")
+pub fn not_a_call(out: &mut [u8], t: Text, line: u64) -> Text {
+    let a = words(out, t, b"line ");
+    let b = number(out, a, line);
+    words(out, b, b": not a call")
 }
 
 // Why a line is no call.
-pub fn fault_name(text: &mut [u8], n: usize, fault: Fault) -> usize {
+pub fn fault_name(out: &mut [u8], t: Text, fault: Fault) -> Text {
     let table = b"no such call\n\
         a number is missing, or is none of 0 to 2^64 - 1\n\
         bytes are missing, are no pairs of hexadecimal digits, or are more than 20,000\n\
         the room is no number of 0 to 65,536\n\
         more words than the call has\n\
         longer than 65,535 characters\n";
-    entry(text, n, table, fault_number(fault))
+    entry(out, t, table, fault_number(fault))
 }
 
 fn fault_number(fault: Fault) -> usize {

@@ -13,14 +13,15 @@ use text_io::lines::next_line;
 use tokens::MOST_BYTES;
 
 // How many bytes a line says at most: those of two words.
-const LINE_BYTES: usize = 2 * MOST_BYTES;
+pub const LINE_BYTES: usize = 2 * MOST_BYTES;
 
-// What became of a line: there was nothing to do, a call was answered, or it is no call; or there was no line left.
+// What became of a line: there was nothing to do, a call was answered, or it is no call; or there was no line left, or it could not be read.
 pub enum Ran {
     Comment,
     Answered(Call, Reply),
     Bad(Fault),
     End,
+    Failed,
 }
 
 // What became of the next line of a file, and what is still to be read.
@@ -30,24 +31,31 @@ pub struct Turn {
 }
 
 // Runs a line on the memories of both ends.
-fn run_line(line: &[u8], decoder: &mut [u8], encoder: &mut [u8], output: &mut [u8]) -> Ran {
-    let mut bytes = [0u8; LINE_BYTES];
-    let l = read_line(line, &mut bytes);
+fn run_line(
+    line: &[u8],
+    bytes: &mut [u8],
+    decoder: &mut [u8],
+    encoder: &mut [u8],
+    output: &mut [u8],
+) -> Ran {
+    let l = read_line(line, bytes);
     match l {
         Line::Comment => Ran::Comment,
         Line::Bad(fault) => Ran::Bad(fault),
         Line::Recorded(call) => {
-            let r = perform_within(call, &bytes, decoder, encoder, output);
+            let r = perform_within(call, bytes, decoder, encoder, output);
             Ran::Answered(call, r)
         }
     }
 }
 
-// Reads the next line of a file into `input` and runs it on the memories of both ends.
+// Reads the next line of a file into `input` and runs it on the memories of both ends; the bytes that its call was given are left in
+// `bytes`, from the front on, up to the call's `end`.
 pub fn run_next(
     fd: i32,
     input: &mut [u8],
     reader: Reader,
+    bytes: &mut [u8],
     decoder: &mut [u8],
     encoder: &mut [u8],
     output: &mut [u8],
@@ -61,12 +69,16 @@ pub fn run_next(
             ran: Ran::End,
             rest: Reader::new(),
         },
+        Next::Failed => Turn {
+            ran: Ran::Failed,
+            rest: Reader::new(),
+        },
         Next::TooLong(rest) => Turn {
             ran: Ran::Bad(Fault::TooLong),
             rest,
         },
         Next::Line(from, to, rest) => {
-            let ran = run_line(&input[from..to], decoder, encoder, output);
+            let ran = run_line(&input[from..to], bytes, decoder, encoder, output);
             Turn { ran, rest }
         }
     }

@@ -5,6 +5,8 @@ mod run;
 
 use run::run;
 use text_io::files::open_argument;
+use text_io::incomplete::Why;
+use text_io::incomplete::incomplete;
 
 fn main() {
     let count = os::arg_count();
@@ -23,6 +25,7 @@ fn main() {
 fn run_argument(i: usize) {
     let fd = open_argument(i);
     if fd < 0 {
+        incomplete(libc::STDERR_FILENO, 0, Why::NotOpened);
         return;
     }
     run(fd);

@@ -1,2 +1,5 @@
--- What a report says.
+-- What a report says, and how a field is shown.
+pub mod Ascii
 pub mod Report
+pub mod Said
+pub mod Shown

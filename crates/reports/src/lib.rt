@@ -1,3 +1,5 @@
-// What a machine reports: a field list in readable form, and the hours that it says.
-pub mod hours;
+// What a machine reports: which field lists are a report, its hours, and a field list in readable form.
 pub mod readable;
+pub mod report;
+mod said;
+pub mod shown;

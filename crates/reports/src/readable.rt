@@ -1,70 +1,72 @@
-// A report in readable form: `machine: L-17, hours: 4100, turns: 2 = 13517.2 hours`.
+// A field list in readable form, `machine: L-17, hours: 4100, turns: 2`, and the words for what is said of its hours.
 ghost use Rattle.fields.specs.Reading.{InText};
-use crate::hours::Hours;
-use crate::hours::read_hours;
-use crate::hours::text_at;
+use crate::report::Named;
+use crate::report::Why;
+use crate::report::text_at;
+use crate::shown::Place;
+use crate::shown::place_in;
+use crate::shown::shown_byte;
 use fields::read::FieldPlace;
 use fields::read::FieldRead;
 use fields::read::read_field;
 use text_io::print;
+use text_io::print::Text;
 
 // How many tenths an hour has.
 const TENTHS: u32 = 10;
 
-// Is the character shown as it is? Printable ASCII is, but for what the form itself uses: what follows a `=` is never a part of a field.
-fn printable(c: u8) -> bool {
-    match c {
-        b'\\' | b',' | b'=' => false,
-        b' '..=b'~' => true,
-        _ => false,
-    }
+fn character(out: &mut [u8], t: Text, place: Place, c: u8) -> Text {
+    let shown = shown_byte(place, c);
+    let bytes = shown.bytes;
+    let n = shown.length;
+    print::words(out, t, &bytes[..n])
 }
 
-// A character: as it is, or as two hexadecimal digits after \x.
-fn character(out: &mut [u8], n: usize, c: u8) -> usize {
-    if printable(c) {
-        return print::byte(out, n, c);
-    }
-    let k = print::words(out, n, b"\\x");
-    print::pair(out, k, c)
-}
-
-// A name or a value.
-fn shown(out: &mut [u8], n: usize, s: &[u8]) -> usize {
-    let mut k = n;
+// Bytes as the name of a field is shown.
+pub fn name(out: &mut [u8], t: Text, s: &[u8]) -> Text {
+    let mut k = t;
     let mut i: usize = 0;
     while i < s.len() {
-        k = character(out, k, s[i]);
+        k = character(out, k, Place::Name, s[i]);
+        i += 1;
+    }
+    k
+}
+
+fn value(out: &mut [u8], t: Text, s: &[u8]) -> Text {
+    let mut k = t;
+    let mut i: usize = 0;
+    while i < s.len() {
+        k = character(out, k, place_in(i, s.len()), s[i]);
         i += 1;
     }
     k
 }
 
 // A comma before every field but the first, which stands at the place 0.
-fn comma(out: &mut [u8], n: usize, at: usize) -> usize {
+fn comma(out: &mut [u8], t: Text, at: usize) -> Text {
     if at == 0 {
-        return n;
+        return t;
     }
-    print::words(out, n, b", ")
+    print::words(out, t, b", ")
 }
 
-fn field(out: &mut [u8], n: usize, list: &[u8], place: FieldPlace) -> usize
+fn field(out: &mut [u8], t: Text, list: &[u8], place: FieldPlace) -> Text
     requires { ⌜ InText (now list) (place .name) × InText (now list) (place .value) ⌝ }
 {
-    let name = place.name;
-    let value = place.value;
-    let a = shown(out, n, text_at(list, name));
+    let n = place.name;
+    let v = place.value;
+    let a = name(out, t, text_at(list, n));
     let b = print::words(out, a, b": ");
-    let c = shown(out, b, text_at(list, value));
+    let c = value(out, b, text_at(list, v));
     if place.flag == 1 {
         return print::words(out, c, b" = never store");
     }
     c
 }
 
-// The fields one after another.
-fn fields(out: &mut [u8], n: usize, list: &[u8]) -> usize {
-    let mut k = n;
+fn each_field(out: &mut [u8], t: Text, list: &[u8]) -> Text {
+    let mut k = t;
     let mut at: usize = 0;
     while at < list.len() {
         let r = read_field(list, at);
@@ -78,19 +80,48 @@ fn fields(out: &mut [u8], n: usize, list: &[u8]) -> usize {
     k
 }
 
-// The fields, and the hours where they say them.
-pub fn report(out: &mut [u8], n: usize, list: &[u8]) -> usize {
+// The fields one after another.
+pub fn fields(out: &mut [u8], t: Text, list: &[u8]) -> Text {
     if list.len() == 0 {
-        return print::words(out, n, b"no fields");
+        return print::words(out, t, b"no fields");
     }
-    let a = fields(out, n, list);
-    let h = read_hours(list);
-    let Hours::Tenths(t) = h else {
-        return a;
-    };
-    let b = print::words(out, a, b" = ");
-    let c = print::number(out, b, (t / TENTHS) as u64);
-    let d = print::byte(out, c, b'.');
-    let e = print::number(out, d, (t % TENTHS) as u64);
-    print::words(out, e, b" hours")
+    each_field(out, t, list)
+}
+
+// Tenths of an hour in hours, with one decimal.
+pub fn hours(out: &mut [u8], t: Text, tenths: u32) -> Text {
+    let a = print::number(out, t, (tenths / TENTHS) as u64);
+    let b = print::byte(out, a, b'.');
+    print::number(out, b, (tenths % TENTHS) as u64)
+}
+
+fn named_word(out: &mut [u8], t: Text, named: Named) -> Text {
+    match named {
+        Named::Machine => print::words(out, t, b"machine"),
+        Named::Hours => print::words(out, t, b"hours"),
+        Named::Turns => print::words(out, t, b"turns"),
+    }
+}
+
+fn range(out: &mut [u8], t: Text, named: Named) -> Text {
+    match named {
+        Named::Machine => print::words(out, t, b" not 1 to 15 printable characters"),
+        Named::Hours | Named::Turns => print::words(out, t, b" not a number of 0 to 65535"),
+    }
+}
+
+// Why a list is no report.
+pub fn unclear(out: &mut [u8], t: Text, named: Named, why: Why) -> Text {
+    let a = named_word(out, t, named);
+    match why {
+        Why::Missing => print::words(out, a, b" missing"),
+        Why::MoreThanOnce => print::words(out, a, b" more than once"),
+        Why::OutOfRange => range(out, a, named),
+    }
+}
+
+// That a trailer has this field.
+pub fn in_trailer(out: &mut [u8], t: Text, named: Named) -> Text {
+    let a = named_word(out, t, named);
+    print::words(out, a, b" in a trailer")
 }

@@ -2,7 +2,7 @@
 use Prim.Native.Nat.{ℕ, _≤_}
 use Rattle.text_io.specs.declared.lines.Reader.{Reader}
 use Rattle.text_io.specs.declared.lines.Next.{Next}
-use Rattle.text_io.specs.declared.lines.Next.the-variants.{Line, TooLong, End}
+use Rattle.text_io.specs.declared.lines.Next.the-variants.{Line, TooLong, End, Failed}
 
 abbrev pub Inside : ℕ → Reader → Type 0
 Inside n r = (r .from ≤ r .filled) × (r .filled ≤ n)
@@ -12,3 +12,4 @@ abbrev pub Placed : ℕ → Next → Type 0
 Placed n (Line from to r) = (from ≤ to) × (to ≤ n) × Inside n r
 Placed n (TooLong r) = Inside n r
 Placed n End = Unit {0}
+Placed n Failed = Unit {0}

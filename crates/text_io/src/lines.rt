@@ -12,11 +12,18 @@ pub struct Reader {
 }
 
 // What reading a line finds: its place in the buffer, from the first number up to the second, without its newline; or a line that the
-// buffer does not hold, passed over to its end; or the end of the file.
+// buffer does not hold, passed over to its end; or the end of the file; or that a read failed.
 pub enum Next {
     Line(usize, usize, Reader),
     TooLong(Reader),
     End,
+    Failed,
+}
+
+// What one read did: how many bytes of the buffer are filled then, as many as before at the end of the file and where the read failed.
+struct Got {
+    filled: usize,
+    failed: bool,
 }
 
 impl Reader {
@@ -48,11 +55,15 @@ pub fn next_line(fd: i32, buf: &mut [u8], r: Reader) -> Next
         }
         let rest = filled - from;
         if rest == buf.len() {
-            return Next::TooLong(pass_over(fd, buf));
+            return pass_over(fd, buf);
         }
         move_down(buf, 0, from, rest);
         from = 0;
-        filled = read_behind(fd, buf, rest);
+        let got = read_behind(fd, buf, rest);
+        if got.failed {
+            return Next::Failed;
+        }
+        filled = got.filled;
         if filled == rest {
             // the end of the file: its last line may lack a newline
             if rest == 0 {
@@ -63,38 +74,41 @@ pub fn next_line(fd: i32, buf: &mut [u8], r: Reader) -> Next
     }
 }
 
-// Reads once, behind the first `n` bytes, and answers how many are filled then: as many as before at the end of the file, and where the
-// read fails, which is said on standard error.
-fn read_behind(fd: i32, buf: &mut [u8], n: usize) -> usize
+// Reads once, behind the first `n` bytes. A read that a signal interrupts counts as failed.
+fn read_behind(fd: i32, buf: &mut [u8], n: usize) -> Got
     requires { ⌜ n ≤ length (now buf) ⌝ }
-    ensures { λ r. ⌜ (n ≤ r) × (r ≤ length (now (buf .exit))) ⌝ }
+    ensures { λ g. ⌜ (n ≤ g .filled) × (g .filled ≤ length (now (buf .exit))) ⌝ }
 {
     let room = &mut buf[n..];
     let got = libc::read(fd, room);
-    if got < 0 {
-        os::fail(b"read");
+    Got {
+        filled: n + io::count(got, room),
+        failed: got < 0,
     }
-    n + io::count(got, room)
 }
 
 // Passes over what is left of a line. Nothing says that a file ends, so the turns are counted down, from a number that no run uses up.
-fn pass_over(fd: i32, buf: &mut [u8]) -> Reader
-    ensures { λ r. ⌜ Inside (length (now (buf .exit))) r ⌝ }
+fn pass_over(fd: i32, buf: &mut [u8]) -> Next
+    ensures { λ n. ⌜ Placed (length (now (buf .exit))) n ⌝ }
 {
     let mut turns = u64::MAX;
     while 0 < turns {
-        let filled = read_behind(fd, buf, 0);
+        let got = read_behind(fd, buf, 0);
+        if got.failed {
+            return Next::Failed;
+        }
+        let filled = got.filled;
         if filled == 0 {
-            return Reader::new();
+            return Next::TooLong(Reader::new());
         }
         let end = line_end(&buf[..filled], 0);
         if end < filled {
-            return Reader {
+            return Next::TooLong(Reader {
                 from: end + 1,
                 filled,
-            };
+            });
         }
         turns -= 1;
     }
-    Reader::new()
+    Next::TooLong(Reader::new())
 }

@@ -1,38 +1,63 @@
-// Text for the standard output, gathered in a lent buffer and written when that is full. `n` bytes of the buffer are in use, and each
-// function answers how many are then; an `n` above its length counts as a full buffer.
+// Text for the standard output, gathered in a lent buffer and written when that is full. A count of used bytes above the buffer's length
+// counts as a full buffer.
 use tokens::hex::BASE;
 
 // How many decimal digits a number of 64 bits has at most.
 const MOST_DIGITS: usize = 20;
 
-pub fn byte(out: &mut [u8], n: usize, c: u8) -> usize {
-    if n < out.len() {
-        out[n] = c;
-        return n + 1;
-    }
-    io::write_all(libc::STDOUT_FILENO, out);
-    if out.len() == 0 {
-        return 0;
-    }
-    out[0] = c;
-    1
+// How many bytes of the lent buffer are in use, and whether a write has failed so far. Each function answers both as they are then.
+pub struct Text {
+    pub used: usize,
+    pub lost: bool,
 }
 
-pub fn words(out: &mut [u8], n: usize, text: &[u8]) -> usize {
-    let mut k = n;
+impl Text {
+    pub fn new() -> Text {
+        Text {
+            used: 0,
+            lost: false,
+        }
+    }
+}
+
+pub fn byte(out: &mut [u8], t: Text, c: u8) -> Text {
+    let n = t.used;
+    if n < out.len() {
+        out[n] = c;
+        return Text {
+            used: n + 1,
+            lost: t.lost,
+        };
+    }
+    let emptied = flush(out, t);
+    if out.len() == 0 {
+        return Text {
+            used: 0,
+            lost: true,
+        };
+    }
+    out[0] = c;
+    Text {
+        used: 1,
+        lost: emptied.lost,
+    }
+}
+
+pub fn words(out: &mut [u8], t: Text, s: &[u8]) -> Text {
+    let mut k = t;
     let mut i: usize = 0;
-    while i < text.len() {
-        k = byte(out, k, text[i]);
+    while i < s.len() {
+        k = byte(out, k, s[i]);
         i += 1;
     }
     k
 }
 
 // A number in decimal digits.
-pub fn number(out: &mut [u8], n: usize, v: u64) -> usize {
+pub fn number(out: &mut [u8], t: Text, v: u64) -> Text {
     let mut digits = [0u8; MOST_DIGITS];
     let k = io::decimal(v, &mut digits);
-    words(out, n, &digits[..k])
+    words(out, t, &digits[..k])
 }
 
 // A digit below 16, and `f` for a larger number.
@@ -45,14 +70,14 @@ fn digit(d: u8) -> u8 {
 }
 
 // A byte as two hexadecimal digits.
-pub fn pair(out: &mut [u8], n: usize, c: u8) -> usize {
-    let k = byte(out, n, digit(c / BASE));
+pub fn pair(out: &mut [u8], t: Text, c: u8) -> Text {
+    let k = byte(out, t, digit(c / BASE));
     byte(out, k, digit(c % BASE))
 }
 
 // Bytes as hexadecimal digits.
-pub fn bytes(out: &mut [u8], n: usize, s: &[u8]) -> usize {
-    let mut k = n;
+pub fn bytes(out: &mut [u8], t: Text, s: &[u8]) -> Text {
+    let mut k = t;
     let mut i: usize = 0;
     while i < s.len() {
         k = pair(out, k, s[i]);
@@ -61,11 +86,25 @@ pub fn bytes(out: &mut [u8], n: usize, s: &[u8]) -> usize {
     k
 }
 
-// Writes what is gathered.
-pub fn flush(out: &[u8], n: usize) {
+// Writes what is gathered to this descriptor, and answers whether all of it was written.
+pub fn write_to(fd: i32, out: &[u8], t: Text) -> bool {
+    let n = t.used;
     if n < out.len() {
-        io::write_all(libc::STDOUT_FILENO, &out[..n]);
-    } else {
-        io::write_all(libc::STDOUT_FILENO, out);
+        return io::write_all(fd, &out[..n]);
+    }
+    io::write_all(fd, out)
+}
+
+// Writes what is gathered to the standard output.
+pub fn flush(out: &[u8], t: Text) -> Text {
+    if write_to(libc::STDOUT_FILENO, out, t) {
+        return Text {
+            used: 0,
+            lost: t.lost,
+        };
+    }
+    Text {
+        used: 0,
+        lost: true,
     }
 }

@@ -34,11 +34,34 @@ pub enum BytesRead {
     Bad,
 }
 
-// The place of the first character from the place `at` on that is no space, or a place behind the text.
+// Does the character separate words? Spaces and tabs do, and carriage returns, so that either kind of line end can be read.
+fn separates(c: u8) -> bool {
+    match c {
+        b' ' | b'\t' | b'\r' => true,
+        _ => false,
+    }
+}
+
+// The place of the first character from the place `at` on that separates no words, or a place behind the text.
 fn past_spaces(text: &[u8], at: usize) -> usize {
     let mut i = at;
     while i < text.len() {
-        if text[i] != b' ' {
+        if !separates(text[i]) {
+            return i;
+        }
+        i += 1;
+    }
+    i
+}
+
+// The place of the first character from the place `at` on that separates words, or the end of the text.
+fn word_end(text: &[u8], at: usize) -> usize
+    requires { ⌜ at ≤ length (now text) ⌝ }
+    ensures { λ r. ⌜ (at ≤ r) × (r ≤ length (now (text .entry))) ⌝ }
+{
+    let mut i = at;
+    while i < text.len() {
+        if separates(text[i]) {
             return i;
         }
         i += 1;
@@ -72,7 +95,7 @@ pub fn next_word(text: &[u8], at: usize) -> Word
             to: text.len(),
         };
     }
-    let to = find(text, from, b' ');
+    let to = word_end(text, from);
     Word { from, to }
 }
 

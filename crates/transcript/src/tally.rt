@@ -1,58 +1,66 @@
 // How many of each kind there were.
-use integers::answer::DONE;
-use integers::answer::WAITS;
-use recording::Kind;
+ghost use Prim.Native.Nat.{_≤_};
 
-// How many calls, and lines that are no calls; of the blocks offered to the decoder, those done, told to wait and refused; and how many
-// other calls were refused.
+// How many kinds are counted.
+pub const COUNTS: usize = 12;
+
+// What is counted, in the order of the last line: calls and bad lines; of the blocks offered to the decoder those done and refused, the offers
+// told to wait, and the blocks still waiting; of the other calls those refused, cut short and with bytes left over; and blocks with unclear
+// hours, messages whose hours fall, and reports of machines that are not kept.
+pub enum Count {
+    Calls,
+    BadLines,
+    BlocksDone,
+    BlocksRefused,
+    ToldToWait,
+    StillWaiting,
+    CallsRefused,
+    CutShort,
+    LeftOver,
+    Unclear,
+    Falls,
+    NotKept,
+}
+
 pub struct Tally {
-    pub calls: u64,
-    pub bad: u64,
-    pub done: u64,
-    pub waiting: u64,
-    pub refused: u64,
-    pub others: u64,
+    pub counts: [u64; COUNTS],
+}
+
+fn place(count: Count) -> usize
+    ensures { λ r. ⌜ r ≤ 11 ⌝ }
+{
+    match count {
+        Count::Calls => 0,
+        Count::BadLines => 1,
+        Count::BlocksDone => 2,
+        Count::BlocksRefused => 3,
+        Count::ToldToWait => 4,
+        Count::StillWaiting => 5,
+        Count::CallsRefused => 6,
+        Count::CutShort => 7,
+        Count::LeftOver => 8,
+        Count::Unclear => 9,
+        Count::Falls => 10,
+        Count::NotKept => 11,
+    }
+}
+
+// The sum, up to the largest number.
+fn sum(a: u64, b: u64) -> u64 {
+    if a <= u64::MAX - b { a + b } else { u64::MAX }
 }
 
 impl Tally {
     pub fn new() -> Tally {
         Tally {
-            calls: 0,
-            bad: 0,
-            done: 0,
-            waiting: 0,
-            refused: 0,
-            others: 0,
+            counts: [0u64; COUNTS],
         }
     }
 
-    pub fn with_bad(mut self) -> Tally {
-        self.bad = more(self.bad);
+    // This many more.
+    pub fn with(mut self, count: Count, n: u64) -> Tally {
+        let k = place(count);
+        self.counts[k] = sum(self.counts[k], n);
         self
     }
-
-    pub fn with_call(mut self, kind: Kind, answer: u8) -> Tally {
-        self.calls = more(self.calls);
-        if let Kind::DecoderBlock = kind {
-            return self.with_block(answer);
-        }
-        if answer != DONE {
-            self.others = more(self.others);
-        }
-        self
-    }
-
-    fn with_block(mut self, answer: u8) -> Tally {
-        match answer {
-            DONE => self.done = more(self.done),
-            WAITS => self.waiting = more(self.waiting),
-            _ => self.refused = more(self.refused),
-        }
-        self
-    }
-}
-
-// One more, up to the largest number.
-fn more(n: u64) -> u64 {
-    if n < u64::MAX { n + 1 } else { n }
 }

@@ -7,10 +7,10 @@ use Rattle.labels.proofs.entry.Statement.{statement}
 use Rattle.labels.proofs.entry.Tie as tie
 
 abbrev Inv-loop : tie.InvT-loop
-Inv-loop text₀ n table k left₀ at₀ text left at = length text ≡ length text₀
+Inv-loop out₀ t table k left₀ at₀ out left at = length out ≡ length out₀
 
 abbrev μ-loop : tie.MeasureT-loop
-μ-loop text₀ n table k left₀ at₀ text left at = length table - at
+μ-loop out₀ t table k left₀ at₀ out left at = length table - at
 
 loop-holds : tie.Need-loop-holds Inv-loop μ-loop
 loop-holds c = omega arith

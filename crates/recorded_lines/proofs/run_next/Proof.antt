@@ -2,9 +2,9 @@
 use mathlib.Core.Path.{_≡_, subst}
 use Prim.Native.Nat.{ℕ}
 use native.Mathlib.Omega.{arith}
-use borrow.Author.Needs.{needs}
 use Rattle.text_io.specs.declared.lines.Next.{Next}
 use Rattle.text_io.specs.Lines.{Placed}
+use borrow.Author.Needs.{needs}
 use Rattle.recorded_lines.proofs.run_next.Statement.{statement}
 use Rattle.recorded_lines.proofs.run_next.Tie as tie
 
@@ -19,6 +19,12 @@ enum-told c = search needs
 
 new-requires : tie.Need-new-requires
 new-requires c κs = search needs
+
+enum-told-2 : tie.Need-enum-told-2
+enum-told-2 c = search needs
+
+new-requires-2 : tie.Need-new-requires-2
+new-requires-2 c κs = search needs
 
 enum-known-next : tie.Need-enum-known-next
 enum-known-next c = search needs
@@ -48,10 +54,13 @@ same-length-2 : tie.Need-same-length-2
 same-length-2 c = search needs
 
 returns-2 : tie.Need-returns-2
-returns-2 c = let p = found _ (c .before .next .given .1) (c .before .before .before .before .before .next-line .ensures) in omega arith
+returns-2 c = search needs
 
 same-length-3 : tie.Need-same-length-3
 same-length-3 c = search needs
+
+returns-3 : tie.Need-returns-3
+returns-3 c = let p = found _ (c .before .next .given .1) (c .before .before .before .before .before .next-line .ensures) in omega arith
 
 same-length-4 : tie.Need-same-length-4
 same-length-4 c = search needs
@@ -62,8 +71,14 @@ same-length-5 c = search needs
 same-length-6 : tie.Need-same-length-6
 same-length-6 c = search needs
 
-returns-3 : tie.Need-returns-3
-returns-3 c = let p = found _ (c .before .before .before .before .before .before .before .before .before .before .before .before .before .next2 .given .1) (c .before .before .before .before .before .before .before .before .before .before .before .before .before .before .before .before .before .next-line .ensures) in omega arith
+same-length-7 : tie.Need-same-length-7
+same-length-7 c = search needs
+
+same-length-8 : tie.Need-same-length-8
+same-length-8 c = search needs
+
+returns-4 : tie.Need-returns-4
+returns-4 c = let p = found _ (c .before .before .before .before .before .before .before .before .before .before .before .before .before .before .before .before .next2 .given .1) (c .before .before .before .before .before .before .before .before .before .before .before .before .before .before .before .before .before .before .before .before .next-line .ensures) in omega arith
 
 pub run-next-spec : {M : Type 1} → statement M
 run-next-spec =
@@ -72,6 +87,8 @@ run-next-spec =
     next-line-requires
     enum-told
     new-requires
+    enum-told-2
+    new-requires-2
     enum-known-next
     enum-known-next-2
     sub-run-line
@@ -83,7 +100,10 @@ run-next-spec =
     same-length-2
     returns-2
     same-length-3
+    returns-3
     same-length-4
     same-length-5
     same-length-6
-    returns-3)
+    same-length-7
+    same-length-8
+    returns-4)

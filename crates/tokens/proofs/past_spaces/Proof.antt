@@ -14,8 +14,11 @@ abbrev μ-loop : tie.MeasureT-loop
 loop-holds : tie.Need-loop-holds Inv-loop μ-loop
 loop-holds c = tt
 
-shared-slice-read-if1 : tie.Need-shared-slice-read-if1 Inv-loop μ-loop
-shared-slice-read-if1 c = omega arith
+shared-slice-read-separates : tie.Need-shared-slice-read-separates Inv-loop μ-loop
+shared-slice-read-separates c = omega arith
+
+separates-requires : tie.Need-separates-requires Inv-loop μ-loop
+separates-requires c κs = tt
 
 returns : tie.Need-returns Inv-loop μ-loop
 returns c = tt
@@ -39,7 +42,8 @@ past-spaces-spec =
     Inv-loop
     μ-loop
     loop-holds
-    shared-slice-read-if1
+    shared-slice-read-separates
+    separates-requires
     returns
     add-i
     loop-less

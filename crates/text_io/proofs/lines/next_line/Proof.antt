@@ -25,8 +25,8 @@ slice-aggregate-line-end c = sym (length-take-le _ _ (omega arith))
 line-end-requires : tie.Need-line-end-requires Inv-loop μ-loop
 line-end-requires c κs = let e = length-take-le (c .before .loop .filled) (c .before .loop .buf) (omega arith) in omega arith
 
-add-t11 : tie.Need-add-t11 Inv-loop μ-loop
-add-t11 c = omega arith
+add-t12 : tie.Need-add-t12 Inv-loop μ-loop
+add-t12 c = omega arith
 
 same-length : tie.Need-same-length Inv-loop μ-loop
 same-length c = omega arith
@@ -44,7 +44,7 @@ same-length-2 : tie.Need-same-length-2 Inv-loop μ-loop
 same-length-2 c = omega arith
 
 returns-2 : tie.Need-returns-2 Inv-loop μ-loop
-returns-2 c = omega arith
+returns-2 c = c .before .before .pass-over .ensures
 
 move-down-requires : tie.Need-move-down-requires Inv-loop μ-loop
 move-down-requires c κs = omega arith
@@ -56,13 +56,19 @@ same-length-3 : tie.Need-same-length-3 Inv-loop μ-loop
 same-length-3 c = omega arith
 
 returns-3 : tie.Need-returns-3 Inv-loop μ-loop
-returns-3 c = omega arith
+returns-3 c = tt
 
 same-length-4 : tie.Need-same-length-4 Inv-loop μ-loop
 same-length-4 c = omega arith
 
 returns-4 : tie.Need-returns-4 Inv-loop μ-loop
-returns-4 c = omega arith
+returns-4 c = tt
+
+same-length-5 : tie.Need-same-length-5 Inv-loop μ-loop
+same-length-5 c = omega arith
+
+returns-5 : tie.Need-returns-5 Inv-loop μ-loop
+returns-5 c = omega arith
 
 loop-less : tie.Need-loop-less Inv-loop μ-loop
 loop-less c = omega arith
@@ -80,7 +86,7 @@ next-line-spec =
     slice-reshare-prefix-line-end
     slice-aggregate-line-end
     line-end-requires
-    add-t11
+    add-t12
     same-length
     returns
     sub-rest
@@ -93,5 +99,7 @@ next-line-spec =
     returns-3
     same-length-4
     returns-4
+    same-length-5
+    returns-5
     loop-less
     loop-again)

@@ -18,14 +18,20 @@ loop-holds c = omega arith
 read-behind-requires : tie.Need-read-behind-requires Inv-loop μ-loop
 read-behind-requires c κs = omega arith
 
-new-requires : tie.Need-new-requires Inv-loop μ-loop
-new-requires c κs = tt
-
 same-length : tie.Need-same-length Inv-loop μ-loop
 same-length c = omega arith
 
 returns : tie.Need-returns Inv-loop μ-loop
-returns c = omega arith
+returns c = tt
+
+new-requires : tie.Need-new-requires Inv-loop μ-loop
+new-requires c κs = tt
+
+same-length-2 : tie.Need-same-length-2 Inv-loop μ-loop
+same-length-2 c = omega arith
+
+returns-2 : tie.Need-returns-2 Inv-loop μ-loop
+returns-2 c = omega arith
 
 slice-reshare-prefix-line-end : tie.Need-slice-reshare-prefix-line-end Inv-loop μ-loop
 slice-reshare-prefix-line-end c = omega arith
@@ -36,14 +42,14 @@ slice-aggregate-line-end c = sym (length-take-le _ _ (omega arith))
 line-end-requires : tie.Need-line-end-requires Inv-loop μ-loop
 line-end-requires c κs = omega arith
 
-add-t11 : tie.Need-add-t11 Inv-loop μ-loop
-add-t11 c = omega arith
+add-t13 : tie.Need-add-t13 Inv-loop μ-loop
+add-t13 c = omega arith
 
-same-length-2 : tie.Need-same-length-2 Inv-loop μ-loop
-same-length-2 c = omega arith
+same-length-3 : tie.Need-same-length-3 Inv-loop μ-loop
+same-length-3 c = omega arith
 
-returns-2 : tie.Need-returns-2 Inv-loop μ-loop
-returns-2 c = omega arith
+returns-3 : tie.Need-returns-3 Inv-loop μ-loop
+returns-3 c = omega arith
 
 sub-turns : tie.Need-sub-turns Inv-loop μ-loop
 sub-turns c = omega arith
@@ -57,11 +63,11 @@ loop-again c = omega arith
 new-requires-2 : tie.Need-new-requires-2 Inv-loop μ-loop
 new-requires-2 c κs = tt
 
-same-length-3 : tie.Need-same-length-3 Inv-loop μ-loop
-same-length-3 c = omega arith
+same-length-4 : tie.Need-same-length-4 Inv-loop μ-loop
+same-length-4 c = omega arith
 
-returns-3 : tie.Need-returns-3 Inv-loop μ-loop
-returns-3 c = omega arith
+returns-4 : tie.Need-returns-4 Inv-loop μ-loop
+returns-4 c = omega arith
 
 pub pass-over-spec : {M : Type 1} → statement M
 pass-over-spec =
@@ -71,18 +77,20 @@ pass-over-spec =
     μ-loop
     loop-holds
     read-behind-requires
-    new-requires
     same-length
     returns
+    new-requires
+    same-length-2
+    returns-2
     slice-reshare-prefix-line-end
     slice-aggregate-line-end
     line-end-requires
-    add-t11
-    same-length-2
-    returns-2
+    add-t13
+    same-length-3
+    returns-3
     sub-turns
     loop-less
     loop-again
     new-requires-2
-    same-length-3
-    returns-3)
+    same-length-4
+    returns-4)

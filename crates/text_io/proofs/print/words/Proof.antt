@@ -7,10 +7,10 @@ use Rattle.text_io.proofs.print.words.Statement.{statement}
 use Rattle.text_io.proofs.print.words.Tie as tie
 
 abbrev Inv-loop : tie.InvT-loop
-Inv-loop out₀ n text k₀ i₀ out k i = length out ≡ length out₀
+Inv-loop out₀ s k₀ i₀ out k i = length out ≡ length out₀
 
 abbrev μ-loop : tie.MeasureT-loop
-μ-loop out₀ n text k₀ i₀ out k i = length text - i
+μ-loop out₀ s k₀ i₀ out k i = length s - i
 
 loop-holds : tie.Need-loop-holds Inv-loop μ-loop
 loop-holds c = omega arith

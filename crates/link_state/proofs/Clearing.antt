@@ -1,0 +1,21 @@
+-- The equations of `cleared`.
+use mathlib.Core.Path.{_≡_, refl, ap}
+use mathlib.Core.List.{List}
+use Prim.Native.Nat.{ℕ, _+_, _≤_}
+use native.Mathlib.Numerals.{add-one}
+use native.Mathlib.Omega.{arith}
+use lib.ListN.{set}
+use Rattle.link_state.specs.Notes.{cleared}
+
+pub cleared-none : (l : List ℕ) (from : ℕ) → cleared l from 0 ≡ l
+unfolding cleared
+cleared-none l from = refl
+
+pub cleared-more : (l : List ℕ) (from i : ℕ) → cleared l from (i + 1) ≡ set (cleared l from i) (from + i) 0
+unfolding cleared
+cleared-more l from i = rw add-one
+
+pub cleared-all : (l : List ℕ) (from i n : ℕ) → i ≤ n → n ≤ i → cleared l from i ≡ cleared l from n
+cleared-all l from i n h k =
+    let e : i ≡ n = omega arith in
+    ap (cleared l from) e

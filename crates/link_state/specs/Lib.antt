@@ -1,0 +1,5 @@
+-- What the gateway knows of a link.
+pub mod Ends
+pub mod Events
+pub mod Notes
+pub mod Sums

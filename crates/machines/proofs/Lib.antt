@@ -1,0 +1,2 @@
+-- Laws of the search for reports.
+pub mod Searching

@@ -1,0 +1,4 @@
+-- Where machines stand, and hours that fall.
+pub mod Falls
+pub mod Keep
+pub mod Standing

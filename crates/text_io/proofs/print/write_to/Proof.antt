@@ -1,0 +1,27 @@
+-- `print::write_to` is safe and ends: what is written has the length that it is said to have.
+use mathlib.Core.Path.{sym}
+use native.Mathlib.Omega.{arith}
+use lib.Seq.{length-take-le}
+use borrow.Author.Needs.{needs}
+use Rattle.text_io.proofs.print.write_to.Statement.{statement}
+use Rattle.text_io.proofs.print.write_to.Tie as tie
+
+slice-aggregate-write-all : tie.Need-slice-aggregate-write-all
+slice-aggregate-write-all c = sym (length-take-le _ _ (omega arith))
+
+write-all-requires : tie.Need-write-all-requires
+write-all-requires c κs = search needs
+
+returns : tie.Need-returns
+returns c = search needs
+
+write-all-requires-2 : tie.Need-write-all-requires-2
+write-all-requires-2 c κs = search needs
+
+returns-2 : tie.Need-returns-2
+returns-2 c = search needs
+
+pub write-to-spec : {M : Type 1} → statement M
+write-to-spec =
+    tie.close
+    (tie.spec slice-aggregate-write-all write-all-requires returns write-all-requires-2 returns-2)

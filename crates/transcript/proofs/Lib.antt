@@ -1,0 +1,2 @@
+-- Laws of the reasons against telling hours.
+pub mod Doubting

@@ -1,0 +1,2 @@
+-- Which messages' hours are told.
+pub mod Doubts

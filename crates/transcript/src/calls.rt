@@ -1,0 +1,181 @@
+// The lines of a recording as they are run: calls, and lines that are none.
+use crate::block::Offer;
+use crate::block::offered;
+use crate::lines;
+use crate::lines::anew_line;
+use crate::log::Log;
+use crate::tally::Count;
+use crate::waiting::still_waiting;
+use integers::answer::DONE;
+use link_state::events::Event;
+use link_state::events::Side;
+use link_state::events::event_of;
+use link_state::events::role_of;
+use link_state::events::side_of;
+use link_state::notes::NOTES;
+use link_state::notes::begin_table;
+use link_state::notes::forget_waiting;
+use link_state::notes::note_waiting;
+use link_state::notes::note_written;
+use link_state::sums::block_sum;
+use machines::falls::RECORDS;
+use recording::Call;
+use recording::Fault;
+use recording::Kind;
+use reply::Reply;
+
+// The first `n` bytes, or all where there are not so many.
+fn front<'a>(s: &'a [u8], n: usize) -> &'a [u8] {
+    if n < s.len() {
+        return &s[..n];
+    }
+    s
+}
+
+// A line that is no call.
+pub fn bad(out: &mut [u8], log: Log, line: u64, fault: Fault) -> Log {
+    let t = log.text;
+    let a = lines::bad_line(out, t, line, fault);
+    let ends = log.ends;
+    log.counting(Count::BadLines)
+        .with_ends(ends.after_bad_line(line))
+        .with_text(a)
+}
+
+// A call that was answered. Its bytes are the first of `bytes`, and what it wrote the first of `output`.
+pub fn answered(
+    out: &mut [u8],
+    log: Log,
+    line: u64,
+    call: Call,
+    r: Reply,
+    bytes: &[u8],
+    output: &[u8],
+    notes: &mut [u64; NOTES],
+    machines: &mut [u64; RECORDS],
+) -> Log {
+    let counted = log.counting(Count::Calls);
+    let kind = call.kind;
+    let put = front(bytes, call.end);
+    let wrote = front(output, r.first as usize);
+    if let Kind::DecoderBlock = kind {
+        let o = Offer {
+            line,
+            stream: call.first,
+            part: call.second,
+        };
+        return offered(out, counted, o, r, put, wrote, notes, machines);
+    }
+    let told = other(out, counted, line, call, r, notes, machines);
+    if r.number == DONE {
+        note(notes, told.ends.encoder.table, call, put, wrote);
+    }
+    told
+}
+
+// How many bytes of a read are left over.
+fn left_over(count: usize, taken: u32) -> u64 {
+    let n = count as u64;
+    let k = taken as u64;
+    if n < k { 0 } else { n - k }
+}
+
+// Another call than a block offered to the decoder.
+fn other(
+    out: &mut [u8],
+    log: Log,
+    line: u64,
+    call: Call,
+    r: Reply,
+    notes: &mut [u64; NOTES],
+    machines: &mut [u64; RECORDS],
+) -> Log {
+    let kind = call.kind;
+    let side = side_of(kind);
+    let role = role_of(kind);
+    let event = event_of(role, r.number, left_over(call.end, r.first));
+    let ends = log.ends;
+    let next = log.with_ends(ends.after_call(side, role, event, line));
+    if let Event::Started = event {
+        return started(out, next, line, side, notes, machines);
+    }
+    eventful(out, next, line, kind, event, r.number)
+}
+
+// The line of a call that is refused, cut short or left bytes over.
+fn eventful(out: &mut [u8], log: Log, line: u64, kind: Kind, event: Event, answer: u8) -> Log {
+    match event {
+        Event::Quiet | Event::Started => log,
+        Event::LeftOver(count) => left(out, log, line, kind, count),
+        Event::CutShort => cut(out, log, line, kind),
+        Event::Refused => refused(out, log, line, kind, answer),
+    }
+}
+
+fn left(out: &mut [u8], log: Log, line: u64, kind: Kind, count: u64) -> Log {
+    let t = log.text;
+    let a = lines::left_line(out, t, line, kind, count);
+    log.counting(Count::LeftOver).with_text(a)
+}
+
+fn cut(out: &mut [u8], log: Log, line: u64, kind: Kind) -> Log {
+    let t = log.text;
+    let a = lines::cut_line(out, t, line, kind);
+    log.counting(Count::CutShort).with_text(a)
+}
+
+fn refused(out: &mut [u8], log: Log, line: u64, kind: Kind, answer: u8) -> Log {
+    let t = log.text;
+    let a = lines::refused_line(out, t, line, kind, answer);
+    log.counting(Count::CallsRefused).with_text(a)
+}
+
+// A start that is done: what was noted of the end's tables before is forgotten.
+fn started(
+    out: &mut [u8],
+    log: Log,
+    line: u64,
+    side: Side,
+    notes: &mut [u64; NOTES],
+    machines: &mut [u64; RECORDS],
+) -> Log {
+    match side {
+        Side::Decoder => decoder_started(out, log, line, notes, machines),
+        Side::Encoder => encoder_started(out, log, line, notes),
+    }
+}
+
+fn decoder_started(
+    out: &mut [u8],
+    log: Log,
+    line: u64,
+    notes: &mut [u64; NOTES],
+    machines: &mut [u64; RECORDS],
+) -> Log {
+    let told = still_waiting(out, log, line, notes);
+    forget_waiting(notes);
+    machines::keep::begin_table(machines);
+    let t = told.text;
+    let a = anew_line(out, t, line, Side::Decoder, told.ends.decoder.table);
+    told.with_text(a)
+}
+
+fn encoder_started(out: &mut [u8], log: Log, line: u64, notes: &mut [u64; NOTES]) -> Log {
+    let table = log.ends.encoder.table;
+    begin_table(notes, table);
+    let t = log.text;
+    let a = anew_line(out, t, line, Side::Encoder, table);
+    log.with_text(a)
+}
+
+// Notes what a call that is done says of blocks: the encoder wrote one in this table, or none of a stream waits any more.
+fn note(notes: &mut [u64; NOTES], table: u64, call: Call, put: &[u8], wrote: &[u8]) {
+    let kind = call.kind;
+    if let Kind::EncoderBlock = kind {
+        note_written(notes, table, call.first, call.second, block_sum(wrote, put));
+    }
+    if let Kind::DecoderEnded = kind {
+        note_waiting(notes, call.first, 0, false);
+        note_waiting(notes, call.first, 1, false);
+    }
+}
