@@ -1,6 +1,4 @@
 pub mod Equations
-pub mod ShortEquations
-pub mod ShortReads
 pub mod Turns
 pub mod Writing
 pub mod Bounds

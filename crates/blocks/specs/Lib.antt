@@ -1,5 +1,4 @@
 -- Header blocks: representations, whole blocks, and what they mean over a lookup.
 pub mod Representation
 pub mod Reading
-pub mod Short
 pub mod Meaning

@@ -1,4 +1,3 @@
 // Header blocks: their representations read and written, and whole blocks checked.
 pub mod read;
-pub mod short;
 pub mod write;

@@ -3,9 +3,12 @@
 use Prim.Native.Nat.{ℕ, _+_, _*_, _≤_, _<_}
 use mathlib.Core.Path.{_≡_, refl, sym, ap, _∙_}
 use native.Mathlib.Omega.{arith}
+use mathlib.Core.Logic.{⊎-elim}
 use mathlib.Core.Bool.{Bool, true, false, _&&_}
 use mathlib.Core.Option.{none, some}
-use mathlib.Core.List.{List}
+use mathlib.Core.List.{List, [], _∷_}
+use denote.Enum.Declared.{tagOf}
+use types.Run.{OneOf}
 use lib.Dec.{ltb, eqb}
 use lib.ListN.{length}
 use borrow.Author.Tests.{lt-ltb, le-leb, lt-leb, ltb-true, eqb-true}
@@ -32,7 +35,12 @@ use Rattle.integers.specs.declared.number.StreamNumber.{StreamNumber}
 use Rattle.reply.specs.Result.{Result, refused, stepped}
 use Rattle.decoder.specs.Calls.{blockCall}
 use Rattle.decoder_survey.specs.Measure.{Stands, ReadsWell, meaningOf}
+use Rattle.decoder_survey.specs.Passes.{surveyAnswer, blockSurvey}
+use Rattle.decoder_survey.specs.declared.measure.Survey.{Survey}
+use Rattle.decoder_survey.proofs.measure.Survey.{the-type}
+use Rattle.decoder_survey.specs.declared.measure.Survey.the-variants.{Bytes, Waits, Refused}
 use Rattle.decoder_survey.proofs.Entries.{changes}
+use Rattle.decoder_survey.proofs.Surveying.{survey-is}
 
 -- ---- the part in turn, and where its kind's marks stand
 
@@ -129,3 +137,10 @@ module _ (m : List ℕ) (stream part : ℕ) (s out : List ℕ) where
           ∙ ap (stepped overlayDecoder m out) (need-true _ _ _ (le-leb (length (listForm fs)) (length out) h))
           ∙ ap (λ (n : List ℕ). record { answer = done (length (listForm fs)) 0; memory = n; output = overlay out 0 (listForm fs) })
           (sym (ap (λ (k : ℕ). cleared m k stream) (T .place) ∙ changes m S .finish stream (T .kind) (T .low)))
+
+  -- a block that is refused or waits: the survey's answer, and nothing changes
+  pub unwritten : Stands m → partTurn (decoderOf m .finished) stream (partOf part) ≡ true → (v : Survey) → OneOf (1 ∷ 2 ∷ []) (tagOf the-type v)
+      → v ≡ blockSurvey m s → blockCall m stream part s out ≡ record { answer = surveyAnswer v; memory = m; output = out }
+  unwritten S t (Bytes n) k e = absurd (⊎-elim (λ (z : _≡_ {A = ℕ} 0 1). omega (arith, z)) (λ (z : _≡_ {A = ℕ} 0 2). omega (arith, z)) k)
+  unwritten S t (Waits index) k e = let g = survey-is m s (Waits index) e in waits S (in-turn _ _ _ t) (g .0) (index .value) (g .1)
+  unwritten S t (Refused number) k e = not-read (S .forms) t number (survey-is m s (Refused number) e)

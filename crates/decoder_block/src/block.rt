@@ -9,6 +9,7 @@ ghost use Rattle.reply.specs.Reply.{answerOf};
 ghost use Rattle.parts.specs.Turn.{partTurn, partIn};
 ghost use Rattle.decoder.specs.Calls.{blockCall};
 ghost use Rattle.decoder_survey.specs.Measure.{Stands};
+ghost use Rattle.decoder_survey.specs.Passes.{surveyAnswer, ToldSurvey};
 use decoder_fields::write::write_fields;
 use decoder_survey::measure::Survey;
 use decoder_survey::measure::survey_block;
@@ -36,6 +37,22 @@ fn kind_of(part: u64) -> Part
     Part::Trailer
 }
 
+// The reply to a block by its survey: its refusal, the vacant index that it waits for, or done with the bytes of its fields.
+fn replied(survey: Survey) -> Reply
+    requires { ⌜ ToldSurvey survey ⌝ }
+    ensures { λ r. ⌜ answerOf r ≡ surveyAnswer survey ⌝ }
+{
+    match survey {
+        Survey::Refused(number) => Reply::refused(number),
+        Survey::Waits(index) => Reply {
+            number: WAITS,
+            first: index.value,
+            second: 0,
+        },
+        Survey::Bytes(n) => Reply::done(n as u32, 0),
+    }
+}
+
 // A block in turn: 13 and the refusals of reading, 1, 12, or its fields, and its part is finished. Stream and part become types again where the part is
 // finished: held as types through both passes they take registers from them, 166 instructions a field for 161 (machine reports, warm).
 fn give(m: &mut [u8], stream: u64, part: u64, s: &[u8], out: &mut [u8]) -> Reply
@@ -44,26 +61,20 @@ fn give(m: &mut [u8], stream: u64, part: u64, s: &[u8], out: &mut [u8]) -> Reply
     ensures { λ _. ⌜ now (m .exit) ≡ blockCall (now (m .entry)) stream part (now (s .entry)) (now (out .entry)) .memory ⌝ }
     ensures { λ _. ⌜ now (out .exit) ≡ blockCall (now (m .entry)) stream part (now (s .entry)) (now (out .entry)) .output ⌝ }
 {
-    match survey_block(m, s) {
-        Survey::Refused(number) => Reply::refused(number),
-        Survey::Waits(index) => Reply {
-            number: WAITS,
-            first: index.value,
-            second: 0,
-        },
-        Survey::Bytes(n) => {
-            if out.len() < n {
-                return Reply::refused(NO_ROOM);
-            }
-            write_fields(m, s, out);
-            clear(
-                m,
-                marks_place(kind_of(part)),
-                StreamNumber::new(stream as u16),
-            );
-            Reply::done(n as u32, 0)
-        }
+    let survey = survey_block(m, s);
+    let Survey::Bytes(n) = survey else {
+        return replied(survey);
+    };
+    if out.len() < n {
+        return Reply::refused(NO_ROOM);
     }
+    write_fields(m, s, out);
+    clear(
+        m,
+        marks_place(kind_of(part)),
+        StreamNumber::new(stream as u16),
+    );
+    replied(survey)
 }
 
 pub fn block(m: &mut [u8], stream: u64, part: u64, s: &[u8], out: &mut [u8]) -> Reply

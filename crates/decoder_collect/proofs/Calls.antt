@@ -18,8 +18,8 @@ use Rattle.state.specs.Layout.{countOf, indexAt, statusAt}
 use Rattle.state.specs.DecoderState.{decoderOf, overlayDecoder}
 use Rattle.state.specs.Forms.{formsDecoder}
 use Rattle.state_laws.proofs.DecoderLaws.{decoder-laws}
-use Rattle.table_search.specs.Search.{lowestRow}
-use Rattle.table_search.specs.declared.names.Sought.the-variants.{Row, Nothing}
+use Rattle.name_search.specs.Names.{lowestRow}
+use Rattle.name_search.specs.declared.names.Sought.the-variants.{Row, Nothing}
 use Rattle.table.specs.Changes.{removed}
 use Rattle.deletes.specs.Deletes.{dropped}
 use Rattle.sizes.specs.Sizes.{intSize}

@@ -19,11 +19,11 @@ use Rattle.state.specs.Front.{marksOf}
 use Rattle.state.specs.DecoderState.{deleteAt, heldOfRow, decoderOf}
 use Rattle.state_laws.proofs.DecoderLaws.{decoder-laws}
 use Rattle.parts.specs.Hold.{GoodDelete}
-use Rattle.table_search.specs.Search.{lowestRow}
-use Rattle.table_search.specs.declared.names.Sought.the-variants.{Row, Nothing}
+use Rattle.name_search.specs.Names.{lowestRow}
+use Rattle.name_search.specs.declared.names.Sought.the-variants.{Row, Nothing}
 use Rattle.table_search.proofs.Finding.{find-at}
-use Rattle.table_search.proofs.Modelled.{search-model, search-model-none}
-use Rattle.table_search.proofs.Walking.{row-within}
+use Rattle.name_search.proofs.LowestRow.{search-model, search-model-none}
+use Rattle.name_search.proofs.LowestRow.{row-within}
 use Rattle.table_laws.specs.DecoderChanges.{DecoderStands, found, heldAt, DecoderChanges}
 use Rattle.table_laws.proofs.DecoderClaim.{decoder-claim}
 use Rattle.decoder_collect.specs.Ready.{readyAt}

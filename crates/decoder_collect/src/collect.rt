@@ -4,7 +4,7 @@ ghost use mathlib.Core.Bool.{true};
 ghost use Prim.Native.Nat.{_<_};
 ghost use Rattle.state.specs.Layout.{countOf};
 ghost use Rattle.state.specs.Forms.{formsDecoder};
-ghost use Rattle.table_search.specs.Search.{lowestRow};
+ghost use Rattle.name_search.specs.Names.{lowestRow};
 ghost use Rattle.reply.specs.Reply.{answerOf};
 ghost use Rattle.decoder.specs.Calls.{collectCall};
 ghost use Rattle.decoder_collect.specs.Ready.{readyAt};
@@ -13,6 +13,7 @@ use instructions::write::write_acknowledgement;
 use integers::answer::NO_ROOM;
 use integers::answer::NO_STATE;
 use integers::number::TableIndex;
+use name_search::names::Sought;
 use parts::hold::Lowest;
 use parts::hold::hold_lowest;
 use reply::Reply;
@@ -22,7 +23,6 @@ use state::head::count_of;
 use state::row::index_at;
 use state::row::status_at;
 use table::remove::remove;
-use table_search::names::Sought;
 
 // Is the entry in row `i` under deletion, and every part that its delete names finished?
 fn is_ready(m: &[u8], i: usize) -> bool

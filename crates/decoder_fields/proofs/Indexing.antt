@@ -34,8 +34,8 @@ use Rattle.blocks.proofs.Equations.{
   representation-literal,
   representation-indexed,
 }
-use Rattle.blocks.specs.declared.short.ShortIndex.{ShortIndex}
-use Rattle.blocks.specs.declared.short.ShortIndex.the-variants.{Found as ShortFound, Other as NoIndex}
+use Rattle.short_forms.specs.declared.short.ShortIndex.{ShortIndex}
+use Rattle.short_forms.specs.declared.short.ShortIndex.the-variants.{Found as ShortFound, Other as NoIndex}
 use Rattle.model_laws.proofs.Tables.{nope}
 use Rattle.decoder_fields.specs.Indexes.{indexIn, IsLiteral, rowIndex}
 use Rattle.decoder_fields.specs.declared.write.IndexedRead.the-variants.{Entry, Other}

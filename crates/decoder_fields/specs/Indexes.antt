@@ -5,8 +5,8 @@ use Rattle.blocks.specs.declared.read.RepresentationPlace.{RepresentationPlace}
 use Rattle.blocks.specs.declared.read.RepresentationPlace.the-variants.{Indexed, Literal}
 use Rattle.blocks.specs.declared.read.RepresentationRead.{RepresentationRead}
 use Rattle.blocks.specs.declared.read.RepresentationRead.the-variants.{Found, Refused}
-use Rattle.blocks.specs.declared.short.ShortIndex.{ShortIndex}
-use Rattle.blocks.specs.declared.short.ShortIndex.the-variants.{Found as ShortFound, Other as NoIndex}
+use Rattle.short_forms.specs.declared.short.ShortIndex.{ShortIndex}
+use Rattle.short_forms.specs.declared.short.ShortIndex.the-variants.{Found as ShortFound, Other as NoIndex}
 use Rattle.decoder_fields.specs.declared.write.IndexedRead.{IndexedRead}
 use Rattle.decoder_fields.specs.declared.write.IndexedRead.the-variants.{Entry, Other}
 

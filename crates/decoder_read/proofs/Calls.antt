@@ -24,7 +24,8 @@ use Rattle.state.specs.Forms.{formsDecoder}
 use Rattle.reply.specs.Result.{Result, refused, stepped}
 use Rattle.decoder.specs.Calls.{readCall}
 use Rattle.decoder.proofs.Standing.{Stands, Leaves, same, refuses, stays}
-use Rattle.decoder_read.specs.Steps.{namedInsert, indexedInsert, keptDelete}
+use Rattle.decoder_read.specs.Steps.{keptDelete}
+use Rattle.decoder_insert.specs.Inserts.{namedInsert, indexedInsert}
 
 module _ (m s : List ℕ) where
   pub read-no-state : formsDecoder m ≡ false → Leaves (readCall m s) (refusal no-state) m

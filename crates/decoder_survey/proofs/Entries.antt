@@ -18,12 +18,12 @@ use Rattle.state.specs.Layout.{countOf}
 use Rattle.state.specs.DecoderState.{decoderOf}
 use Rattle.state_laws.proofs.DecoderLaws.{decoder-laws}
 use Rattle.table_search.specs.Search.{findFrom}
-use Rattle.table_search.specs.Place.{placeFound, locate, Here, InPlace, placeName, placeValue, placeLengths}
+use Rattle.entry_places.specs.Place.{placeFound, locate, Here, InPlace, placeName, placeValue, placeLengths}
 use Rattle.table_search.specs.declared.find.Found.{Found}
 use Rattle.table_search.specs.declared.find.Found.the-variants.{At, Vacant}
-use Rattle.table_search.specs.declared.place.EntryPlace.{EntryPlace}
-use Rattle.table_search.specs.declared.place.EntryPlace.the-variants.{Static, Dynamic, Nowhere}
-use Rattle.table_search.specs.declared.place.EntryLengths.the-variants.{Of, Vacant as NoEntry}
+use Rattle.entry_places.specs.declared.place.EntryPlace.{EntryPlace}
+use Rattle.entry_places.specs.declared.place.EntryPlace.the-variants.{Static, Dynamic, Nowhere}
+use Rattle.entry_places.specs.declared.place.EntryLengths.the-variants.{Of, Vacant as NoEntry}
 use Rattle.table_laws.specs.DecoderChanges.{DecoderChanges}
 use Rattle.table_laws.proofs.DecoderClaim.{decoder-claim}
 use Rattle.decoder_survey.specs.Measure.{Stands}

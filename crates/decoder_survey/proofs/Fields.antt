@@ -21,9 +21,9 @@ use Rattle.blocks.specs.declared.read.RepresentationPlace.{RepresentationPlace}
 use Rattle.blocks.specs.declared.read.RepresentationPlace.the-variants.{Indexed, Literal}
 use Rattle.model.specs.Decoder.{lookup}
 use Rattle.state.specs.DecoderState.{decoderOf}
-use Rattle.table_search.specs.Place.{locate, Here}
-use Rattle.table_search.specs.declared.place.EntryPlace.{EntryPlace}
-use Rattle.table_search.specs.declared.place.EntryPlace.the-variants.{Static, Dynamic, Nowhere}
+use Rattle.entry_places.specs.Place.{locate, Here}
+use Rattle.entry_places.specs.declared.place.EntryPlace.{EntryPlace}
+use Rattle.entry_places.specs.declared.place.EntryPlace.the-variants.{Static, Dynamic, Nowhere}
 use Rattle.decoder_survey.specs.declared.measure.Measured.the-variants.{Bytes, Waits}
 use Rattle.decoder_survey.specs.Measure.{Stands, fieldMeant, fieldAt, IsField, fieldBytes, fieldMeasured}
 use Rattle.decoder_survey.proofs.Entries.{entryOf, slotOf, Located, located}

@@ -15,12 +15,12 @@ use Rattle.wire.proofs.ShortStrings.{GoodShort}
 use Rattle.fields.specs.Form.{textForm, fieldForm}
 use Rattle.fields.proofs.Sizes.{form-one}
 use Rattle.blocks.specs.Reading.{flagOf, readRepresentation}
-use Rattle.blocks.specs.Short.{shortLiteralAt}
+use Rattle.short_forms.specs.Short.{shortLiteralAt}
 use Rattle.blocks.specs.declared.read.RepresentationPlace.{RepresentationPlace}
 use Rattle.blocks.specs.declared.read.RepresentationPlace.the-variants.{Literal}
 use Rattle.blocks.specs.declared.read.RepresentationRead.the-variants.{Found}
-use Rattle.blocks.specs.declared.short.ShortLiteral.the-variants.{Ends}
-use Rattle.blocks.proofs.ShortReads.{ShortRead, short-literal-reads}
+use Rattle.short_forms.specs.declared.short.ShortLiteral.the-variants.{Ends}
+use Rattle.short_forms.proofs.ShortReads.{ShortRead, short-literal-reads}
 use Rattle.decoder_survey.specs.declared.measure.Measured.the-variants.{Bytes}
 use Rattle.decoder_survey.specs.Measure.{fieldAt, literalAt, fieldBytes, fieldMeasured}
 use Rattle.decoder_survey.specs.Passes.{shortForm}

@@ -3,7 +3,7 @@ use Prim.Native.Nat.{ℕ}
 use mathlib.Core.Path.{_≡_}
 use mathlib.Core.List.{List, []}
 use lib.ListN.{length}
-use Rattle.integers.specs.Answers.{Answer, done, waits}
+use Rattle.integers.specs.Answers.{Answer, waits}
 use Rattle.integers.specs.declared.number.TableIndex.{TableIndex}
 use Rattle.wire.specs.Text.{stringBytes}
 use Rattle.wire.specs.declared.text.StringPlace.{StringPlace}
@@ -31,11 +31,6 @@ Stands m = DecoderStands m (decoderOf m)
 -- "a block names a vacant dynamic index; the first in byte order is told"
 abbrev pub waitsFor : TableIndex → Answer
 waitsFor index = record { number = waits; first = index .value; second = 0 }
-
--- what is answered: the bytes of the fields are told, or the index that is waited for
-abbrev pub measuredAnswer : Measured → Answer
-measuredAnswer (Bytes n) = done n 0
-measuredAnswer (Waits index) = waitsFor index
 
 -- ---- one representation
 

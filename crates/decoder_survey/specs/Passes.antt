@@ -24,12 +24,6 @@ use Rattle.decoder_survey.specs.declared.measure.Survey.the-variants.{By
 
 -- ---- answers
 
--- of one representation: the bytes of its field and the place after it are told, or the index that is waited for
-abbrev pub stepAnswer : Step → Answer
-stepAnswer (StepField n next) = done n next
-stepAnswer (StepWaits index next) = waitsFor index
-stepAnswer (StepRefused number) = refusal number
-
 -- of a whole block: the bytes of its fields are told, or the index that is waited for
 abbrev pub surveyAnswer : Survey → Answer
 surveyAnswer (Bytes n) = done n 0

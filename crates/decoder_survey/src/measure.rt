@@ -11,29 +11,29 @@ use blocks::read::INDEXED;
 use blocks::read::RepresentationPlace;
 use blocks::read::RepresentationRead;
 use blocks::read::read_representation;
-use blocks::short::ShortIndex;
-use blocks::short::ShortLiteral;
-use blocks::short::ShortNamed;
-use blocks::short::short_index;
-use blocks::short::short_literal;
-use blocks::short::short_named;
+use entry_places::place::EntryLengths;
+use entry_places::place::lengths_at;
+use entry_places::place::locate;
 use fields::write::field_size;
 use integers::answer::TOO_LONG;
 use integers::number::TableIndex;
-use table_search::place::EntryLengths;
-use table_search::place::lengths_at;
-use table_search::place::locate;
+use short_forms::short::ShortIndex;
+use short_forms::short::ShortLiteral;
+use short_forms::short::ShortNamed;
+use short_forms::short::short_index;
+use short_forms::short::short_literal;
+use short_forms::short::short_named;
 use wire::name::NamePlace;
 use wire::text::StringPlace;
 
 // The bytes that a field takes, or the vacant index that it waits for.
-pub enum Measured {
+enum Measured {
     Bytes(usize),
     Waits(TableIndex),
 }
 
 // The same of one representation with the place after it, or the number of its refusal.
-pub enum Step {
+enum Step {
     Field(usize, usize),
     Waits(TableIndex, usize),
     Refused(u8),

@@ -1,4 +1,2 @@
-// The encoder's calls, one module a call. Inserts and blocks are in crates of their own.
-pub mod acknowledge;
-pub mod delete;
+// The start of an encoder's table. Its other calls are in crates of their own.
 pub mod start;

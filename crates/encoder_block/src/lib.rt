@@ -1,4 +1,2 @@
 // The encoder's block call: a field list in, a header block out.
 pub mod block;
-pub mod refer;
-pub mod write;

@@ -25,8 +25,9 @@ use Rattle.state.specs.Rows.{rowsOf}
 use Rattle.state.specs.EncoderState.{sentOfRow, encoderOf}
 use Rattle.state.specs.Forms.{headOk, referenceOk, formsEncoder}
 use Rattle.state_laws.proofs.RowsTest.{GoodRows, rows-each}
-use Rattle.table_search.specs.Search.{Ordered, servesAt, servesBothAt, lowestRow}
-use Rattle.table_search.specs.declared.names.Sought.the-variants.{Row, Nothing}
+use Rattle.table_search.specs.Search.{Ordered}
+use Rattle.name_search.specs.Names.{servesAt, servesBothAt, lowestRow}
+use Rattle.name_search.specs.declared.names.Sought.the-variants.{Row, Nothing}
 use Rattle.table_laws.specs.EncoderChanges.{EncoderChanges}
 use Rattle.table_laws.proofs.EncoderClaim.{encoder-claim}
 use Rattle.encoder_fields.specs.Naming.{chosenName, staticFirst, literalWith}

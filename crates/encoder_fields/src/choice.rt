@@ -13,8 +13,8 @@ use crate::name::static_first;
 use fields::read::FieldPlace;
 use fields::read::TextPlace;
 use integers::number::TableIndex;
+use name_search::names::Paired;
 use static_search::search::StaticFound;
-use table_search::names::Paired;
 
 pub enum Choice {
     // Name and value by index.
@@ -52,7 +52,7 @@ fn choose_stored(m: &[u8], name: &[u8], value: &[u8]) -> Choice
 {
     match static_search::search::find_both(name, value) {
         StaticFound::At(j) => Choice::Indexed(j),
-        StaticFound::Nothing => match table_search::names::find_pair(m, name, value) {
+        StaticFound::Nothing => match name_search::names::find_pair(m, name, value) {
             Paired::Both(place) => Choice::Indexed(row_index(m, place)),
             Paired::Name(place) => {
                 literal(static_first(name, NameChoice::Index(row_index(m, place))))

@@ -9,9 +9,9 @@ ghost use Rattle.state.specs.EncoderState.{encoderOf};
 ghost use Rattle.state.specs.Forms.{formsEncoder};
 ghost use Rattle.encoder_fields.specs.Naming.{chosenName, staticFirst};
 use integers::number::TableIndex;
+use name_search::names::Sought;
 use state::row::index_at;
 use static_search::search::StaticFound;
-use table_search::names::Sought;
 
 pub enum NameChoice {
     Index(TableIndex),
@@ -33,7 +33,7 @@ pub fn choose_name(m: &[u8], name: &[u8]) -> NameChoice
 {
     match static_search::search::find_name(name) {
         StaticFound::At(i) => NameChoice::Index(i),
-        StaticFound::Nothing => match table_search::names::find_name(m, name) {
+        StaticFound::Nothing => match name_search::names::find_name(m, name) {
             Sought::Row(place) => NameChoice::Index(row_index(m, place)),
             Sought::Nothing => NameChoice::Bytes,
         },

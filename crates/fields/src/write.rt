@@ -6,8 +6,8 @@ ghost use Rattle.memory.specs.Bytes.{overlay};
 ghost use Rattle.wire.specs.Text.{nameLimit, valueLimit};
 ghost use Rattle.fields.specs.Form.{Field, FineField, lengthForm, textForm, fieldForm, textSize, fieldSize};
 use crate::read::GROUP;
+use copying::copy::copy;
 use integers::integer::WireInt;
-use memory::copy::copy;
 
 // How many bytes a name or a value of `n` bytes takes with its length.
 fn text_size(n: usize) -> usize

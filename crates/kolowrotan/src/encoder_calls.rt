@@ -2,10 +2,10 @@
 ghost use mathlib.Core.Path.{_≡_};
 ghost use Rattle.reply.specs.Reply.{joined};
 ghost use Rattle.encoder.specs.Calls.{startCall, insertCall, deleteCall, blockCall, acknowledgeCall};
-use encoder::acknowledge::acknowledge;
-use encoder::delete::delete;
 use encoder::start::start;
+use encoder_acknowledge::acknowledge::acknowledge;
 use encoder_block::block::block;
+use encoder_delete::delete::delete;
 use encoder_insert::insert::insert;
 
 #[no_mangle]

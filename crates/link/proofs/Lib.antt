@@ -19,7 +19,6 @@ pub mod Leaves
 pub mod Answers
 -- document 01's ten checks
 pub mod CallTests
-pub mod TenChecks
 -- histories: what happened at each end, and what follows from it
 pub mod BlockMeanings
 pub mod LawfulReads

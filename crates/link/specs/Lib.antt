@@ -2,7 +2,6 @@
 pub mod Calls
 pub mod Happened
 pub mod Answers
-pub mod Checks
 pub mod Histories
 pub mod Claims
 pub mod Anew

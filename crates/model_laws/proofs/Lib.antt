@@ -9,6 +9,8 @@ pub mod DecoderWays
 pub mod EncoderWays
 pub mod Limits
 pub mod Order
+-- computed facts about collects and enquiries
+pub mod Freeing
 -- states stay well formed
 pub mod TableChanges
 pub mod SentChanges

@@ -66,7 +66,7 @@ pub fn perform(
                 output,
             )
         }
-        Kind::EncoderDelete => encoder::delete::delete(encoder, call.first, output),
+        Kind::EncoderDelete => encoder_delete::delete::delete(encoder, call.first, output),
         Kind::EncoderBlock => encoder_block::block::block(
             encoder,
             call.first,
@@ -74,7 +74,7 @@ pub fn perform(
             s,
             output,
         ),
-        Kind::EncoderAcknowledge => encoder::acknowledge::acknowledge(encoder, s),
+        Kind::EncoderAcknowledge => encoder_acknowledge::acknowledge::acknowledge(encoder, s),
     }
 }
 

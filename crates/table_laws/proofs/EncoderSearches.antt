@@ -23,12 +23,14 @@ use Rattle.state_laws.proofs.RowsTest.{good-ascending}
 use Rattle.state_laws.proofs.SentRows.{sents-size}
 use Rattle.state_laws.proofs.EncoderHolds.{HoldsEncoder, fits-each, holds-state-encoder}
 use Rattle.state_laws.proofs.EncoderForms.{sents-good, pass-rows}
-use Rattle.table_search.specs.Search.{findFrom, servesAt, servesBothAt, lowestRow}
+use Rattle.table_search.specs.Search.{findFrom}
+use Rattle.name_search.specs.Names.{servesAt, servesBothAt, lowestRow}
 use Rattle.table_search.specs.Search as memory
 use Rattle.table_search.specs.declared.find.Found.the-variants.{At, Vacant}
-use Rattle.table_search.specs.declared.names.Sought.{Sought}
-use Rattle.table_search.specs.declared.names.Sought.the-variants.{Row, Nothing}
-use Rattle.table_search.proofs.Modelled.{find-look, find-look-none, vacant-model, search-model, search-model-none}
+use Rattle.name_search.specs.declared.names.Sought.{Sought}
+use Rattle.name_search.specs.declared.names.Sought.the-variants.{Row, Nothing}
+use Rattle.table_search.proofs.Modelled.{find-look, find-look-none, vacant-model}
+use Rattle.name_search.proofs.LowestRow.{search-model, search-model-none}
 use Rattle.table_laws.specs.DecoderChanges.{found, missing}
 use Rattle.table_laws.specs.EncoderChanges.{sentAt}
 

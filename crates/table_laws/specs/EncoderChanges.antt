@@ -16,9 +16,10 @@ use Rattle.state.specs.Layout.{encoderLength, encoderRole, marksPlace, limitOf,
 use Rattle.state.specs.Rows.{rowAt}
 use Rattle.state.specs.EncoderState.{sentOfRow, encoderOf, overlayEncoder}
 use Rattle.state.specs.Forms.{formsEncoder}
-use Rattle.table_search.specs.Search.{Ordered, servesAt, servesBothAt, lowestRow}
+use Rattle.table_search.specs.Search.{Ordered}
+use Rattle.name_search.specs.Names.{servesAt, servesBothAt, lowestRow}
 use Rattle.table_search.specs.Search as memory
-use Rattle.table_search.specs.declared.names.Sought.the-variants.{Row, Nothing}
+use Rattle.name_search.specs.declared.names.Sought.the-variants.{Row, Nothing}
 use Rattle.table.specs.Changes.{Opening, inserted, Removing, removed, started}
 use Rattle.table_rows.specs.Rows.{statusSet}
 use Rattle.deletes.specs.Deletes.{raised, unreferred}

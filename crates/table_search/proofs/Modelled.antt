@@ -1,22 +1,18 @@
--- The searches of rows in memory are the model's searches of the list of those rows. By induction over the rows, one step of both at a time.
+-- The searches of rows by index are the model's searches of the list of those rows. By induction over the rows, one step of both at a time.
 use mathlib.Core.Path.{_≡_, refl, sym, ap, _∙_}
 use Prim.Native.Nat.{ℕ, zero, suc, _+_, _≤_, _<_}
 use native.Mathlib.Omega.{arith}
-use mathlib.Core.Bool.{Bool}
 use mathlib.Core.Option.{none, some}
 use mathlib.Core.List.{List}
 use lib.Dec.{eqb}
 use Rattle.memory.specs.Choice.{pick}
-use Rattle.memory.proofs.Order.{pick-both, pick-true, pick-false}
-use Rattle.model.specs.Table.{Ascending, look, lowest, vacantFrom as lowestVacant}
+use Rattle.model.specs.Table.{Ascending, look, vacantFrom as lowestVacant}
 use Rattle.model_laws.proofs.Tables.{nope, pick-eq, pick-lt, pick-yes, pick-no, look-below}
 use Rattle.state.specs.Layout.{indexAt}
-use Rattle.state.specs.Rows.{Row as TableRow, rowIndex, rowAt, rowsOf}
-use Rattle.table_search.specs.Search.{findFrom, vacantRow, lowestRow}
+use Rattle.state.specs.Rows.{rowIndex, rowAt, rowsOf}
+use Rattle.table_search.specs.Search.{findFrom, vacantRow}
 use Rattle.table_search.specs.declared.find.Found.{Found}
 use Rattle.table_search.specs.declared.find.Found.the-variants.{At, Vacant}
-use Rattle.table_search.specs.declared.names.Sought.{Sought}
-use Rattle.table_search.specs.declared.names.Sought.the-variants.{Row, Nothing}
 
 module _ (m : List ℕ) where
   -- ---- by index, of the k rows from row i on
@@ -61,28 +57,3 @@ module _ (m : List ℕ) where
       pick-eq (λ (r : ℕ). 62 + r ≡ lowestVacant rowIndex (62 + i) (rowsOf m i (suc k))) (indexAt m i) (62 + i) (vacantRow m k (i + 1)) i
       (λ q. vacant-model k (i + 1) ∙ ap (λ (n : ℕ). lowestVacant rowIndex n (rowsOf m (i + 1) k)) e ∙ sym (pick-yes (indexAt m i) (62 + i) _ _ q))
       (λ q. sym (pick-no (indexAt m i) (62 + i) _ _ q))
-
-  -- ---- the lowest row that passes a test
-
-  module _ (test : ℕ → Bool) (test' : TableRow → Bool) where
-    pub search-model : (k i p : ℕ) → ((j : ℕ) → i ≤ j → j < i + k → test' (rowAt m j) ≡ test j) → lowestRow test k i ≡ Row p
-        → lowest rowIndex test' (rowsOf m i k) ≡ some (rowAt m p)
-    unfolding lowestRow lowest rowsOf
-    search-model zero i p f e = nope (cc)
-    search-model (suc k) i p f e =
-        let b = f i (omega arith) (omega arith) in
-        pick-both (λ (r : Sought). r ≡ Row p → lowest rowIndex test' (rowsOf m i (suc k)) ≡ some (rowAt m p)) (test i) (Row i) (lowestRow test k (i + 1))
-        (λ t d. let z : i ≡ p = cc in pick-true (test' (rowAt m i)) _ _ (b ∙ t) ∙ ap (λ (j : ℕ). some (rowAt m j)) z)
-        (λ t d. pick-false (test' (rowAt m i)) _ _ (b ∙ t) ∙ search-model k (i + 1) p (λ j l h. f j (omega arith) (omega arith)) d)
-        e
-
-    pub search-model-none : (k i : ℕ) → ((j : ℕ) → i ≤ j → j < i + k → test' (rowAt m j) ≡ test j) → lowestRow test k i ≡ Nothing
-        → lowest rowIndex test' (rowsOf m i k) ≡ none
-    unfolding lowestRow lowest rowsOf
-    search-model-none zero i f e = refl
-    search-model-none (suc k) i f e =
-        let b = f i (omega arith) (omega arith) in
-        pick-both (λ (r : Sought). r ≡ Nothing → lowest rowIndex test' (rowsOf m i (suc k)) ≡ none) (test i) (Row i) (lowestRow test k (i + 1))
-        (λ t d. nope (cc))
-        (λ t d. pick-false (test' (rowAt m i)) _ _ (b ∙ t) ∙ search-model-none k (i + 1) (λ j l h. f j (omega arith) (omega arith)) d)
-        e

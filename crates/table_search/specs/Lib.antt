@@ -1,3 +1,2 @@
 -- Searches of the header table.
 pub mod Search
-pub mod Place

@@ -1,5 +1,2 @@
-// Searches of the header table in lent memory. Nothing is changed here.
+// Searches of the header table in lent memory by index. Nothing is changed here.
 pub mod find;
-pub mod names;
-pub mod place;
-pub mod text;

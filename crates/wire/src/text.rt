@@ -5,6 +5,7 @@ ghost use lib.ListN.{length};
 ghost use Rattle.memory.specs.Bytes.{overlay};
 ghost use Rattle.wire.specs.Text.{InString, stringAnswer, stringLength, stringBytes, readString, stringWire, valueLimit};
 ghost use Rattle.wire.specs.Short.{shortStringAt};
+use copying::copy::copy;
 use integers::answer::DONE;
 use integers::answer::PACKED;
 use integers::answer::TOO_LONG;
@@ -12,7 +13,6 @@ use integers::answer::TRUNCATED;
 use integers::byte::wide;
 use integers::integer::IntRead;
 use integers::integer::WireInt;
-use memory::copy::copy;
 
 // The most bytes that a name and a value have.
 pub const NAME_LIMIT: usize = 255;

@@ -11,10 +11,10 @@ use Rattle.blocks.specs.Meaning.{BlockMeaning}
 use Rattle.state.specs.DecoderState.{decoderOf}
 use Rattle.decoder_survey.specs.Measure.{IsList, listBytes}
 use Rattle.decoder_survey.specs.Passes.{ToldSurvey}
-use Rattle.decoder_survey.specs.declared.measure.Survey.the-variants.{Bytes, Waits, Refused}
+use Rattle.decoder_survey.specs.declared.measure.Survey.the-variants.{Bytes}
 use Rattle.decoder_survey.proofs.Entries.{changes}
 use Rattle.decoder_survey.proofs.Surveying.{Gives, survey-is}
-use Rattle.decoder_block.proofs.Calls.{InTurn, in-turn, leaves, not-read, waits, no-room, gives}
+use Rattle.decoder_block.proofs.Calls.{InTurn, in-turn, leaves, no-room, gives, unwritten}
 use borrow.Author.Needs.{needs}
 use Rattle.decoder_block.proofs.block.give.Statement.{statement}
 use Rattle.decoder_block.proofs.block.give.Tie as tie
@@ -22,37 +22,39 @@ use Rattle.decoder_block.proofs.block.give.Tie as tie
 turn : (c : tie.Start) → let a = c .args in InTurn (decoderOf (now (a .m)) .finished) (a .stream) (a .part)
 turn c = in-turn _ _ _ (c .pre .1)
 
-fields : (c : tie.After-known-told3) → Gives (now (c .before .before .before .before .before .before .before .before .args .m)) (now (c .before .before .before .before .before .before .before .before .args .s)) (c .before .n .given .0 .0)
-fields c = survey-is _ _ (Bytes (c .before .n .given .0 .0)) (sym (c .before .n .given .1) ∙ c .before .before .before .survey-block .ensures .0)
+fields : (c : tie.After-known-told) → Gives (now (c .before .before .before .before .before .before .before .before .args .m)) (now (c .before .before .before .before .before .before .before .before .args .s)) (c .before .survey .given .0 .0)
+fields c = survey-is _ _ (Bytes (c .before .survey .given .0 .0)) (sym (c .before .survey .given .1) ∙ c .before .before .before .survey-block .ensures .0)
 
 survey-block-requires : tie.Need-survey-block-requires
 survey-block-requires c κs = search needs
 
-enum-known-number : tie.Need-enum-known-number
-enum-known-number c = search needs
+enum-known-survey : tie.Need-enum-known-survey
+enum-known-survey c = search needs
 
-refused-requires : tie.Need-refused-requires
-refused-requires c κs = search needs
-
-enum-known-index : tie.Need-enum-known-index
-enum-known-index c = search needs
-
-enum-known-n : tie.Need-enum-known-n
-enum-known-n c = search needs
-
-refused-requires-2 : tie.Need-refused-requires-2
-refused-requires-2 c κs = search needs
+replied-requires : tie.Need-replied-requires
+replied-requires c κs = search needs
 
 same-length : tie.Need-same-length
 same-length c = search needs
 
 returns : tie.Need-returns
 returns c =
+    let start = c .before .before .before .before .before .before .before in
+    leaves (unwritten _ _ _ _ _ (start .pre .0) (start .pre .1) _ (c .before .match .keys2) (c .before .before .survey-block .ensures .0)) (c .replied .ensures) refl refl
+
+refused-requires : tie.Need-refused-requires
+refused-requires c κs = search needs
+
+same-length-2 : tie.Need-same-length-2
+same-length-2 c = search needs
+
+returns-2 : tie.Need-returns-2
+returns-2 c =
     let known = c .before .before in
     let start = known .before .before .before .before .before .before .before .before in
     let f = fields known in
     leaves (no-room _ _ _ _ _ (start .pre .0) (turn start) (f .reads) (f .fields) (f .means) (omega (arith, f .long, c .before .if1 .taken)))
-    (c .refused2 .ensures) refl refl
+    (c .refused .ensures) refl refl
 
 write-fields-requires : tie.Need-write-fields-requires
 write-fields-requires c κs =
@@ -80,50 +82,25 @@ clear-requires c κs =
     rw (c .new .ensures)
     (t .low, omega (arith, c .before .marks-place .ensures, c .before .before .kind-of .ensures, t .few, changes _ (start .pre .0) .ordered .long))
 
-cast-done : tie.Need-cast-done
-cast-done c =
+replied-requires-2 : tie.Need-replied-requires-2
+replied-requires-2 c κs =
     let known = c .before .before .before .before .before .before .before .before .before .before .before .before .before in
-    let t = subst ToldSurvey (known .before .n .given .1) (known .before .before .before .survey-block .ensures .1) refl in
-    omega (arith, t)
-
-done-requires : tie.Need-done-requires
-done-requires c κs = search needs
-
-same-length-2 : tie.Need-same-length-2
-same-length-2 c = search needs
-
-returns-2 : tie.Need-returns-2
-returns-2 c =
-    let start = c .before .before .before .before .before .before .before .before .before in
-    let p = start .pre in
-    let number = c .before .before .number .given .0 .0 in
-    let e = survey-is _ _ (Refused number) (sym (c .before .before .number .given .1) ∙ c .before .before .before .before .survey-block .ensures .0) in
-    leaves (not-read _ _ _ _ _ (p .0 .forms) (p .1) _ e) (c .refused .ensures) refl refl
+    subst ToldSurvey (known .before .survey .given .1) (known .before .before .before .survey-block .ensures .1)
 
 same-length-3 : tie.Need-same-length-3
 same-length-3 c = search needs
 
-returns-3 : tie.Need-returns-3
-returns-3 c =
-    let start = c .before .before .before .before .before .before .before .before in
-    let p = start .pre in
-    let e = survey-is _ _ (Waits (c .before .index .given .0 .0)) (sym (c .before .index .given .1) ∙ c .before .before .before .survey-block .ensures .0) in
-    leaves (waits _ _ _ _ _ (p .0) (turn start) (e .0) _ (e .1)) refl refl refl
-
 same-length-4 : tie.Need-same-length-4
 same-length-4 c = search needs
 
-same-length-5 : tie.Need-same-length-5
-same-length-5 c = search needs
-
-returns-4 : tie.Need-returns-4
-returns-4 c =
+returns-3 : tie.Need-returns-3
+returns-3 c =
     let known = c .before .before .before .before .before .before .before .before .before .before .before .before .before .before in
     let start = known .before .before .before .before .before .before .before .before in
     let a = start .args in
     let f = fields known in
     leaves (gives _ _ _ _ _ (start .pre .0) (turn start) (f .reads) (f .fields) (f .means) (omega (arith, f .long, c .before .before .before .before .before .before .before .before .before .before .before .before .before .if1 .left)))
-    (c .done .ensures ∙ ap (λ (n : ℕ). done n 0) (sym (f .long)))
+    (c .replied2 .ensures ∙ ap (λ (n : ℕ). done n 0) (sym (f .long)))
     (c .before .before .before .clear .ensures ∙ ap₂ (λ (k : ℕ) (x : StreamNumber). cleared (now (a .m)) k (x .value)) (c .before .before .before .before .before .marks-place .ensures ∙ c .before .before .before .before .before .before .kind-of .ensures) (c .before .before .before .before .new .ensures))
     (rw (f .means) at (c .before .before .before .before .before .before .before .before .before .before .write-fields .ensures))
 
@@ -132,25 +109,20 @@ give-spec =
     tie.close
     (tie.spec
     survey-block-requires
-    enum-known-number
-    refused-requires
-    enum-known-index
-    enum-known-n
-    refused-requires-2
+    enum-known-survey
+    replied-requires
     same-length
     returns
+    refused-requires
+    same-length-2
+    returns-2
     write-fields-requires
     kind-of-requires
     marks-place-requires
     cast-new
     new-requires
     clear-requires
-    cast-done
-    done-requires
-    same-length-2
-    returns-2
+    replied-requires-2
     same-length-3
-    returns-3
     same-length-4
-    same-length-5
-    returns-4)
+    returns-3)

@@ -4,8 +4,8 @@ use native.Mathlib.Omega.{arith}
 use mathlib.Core.Path.{_≡_, refl, sym, _∙_}
 use Rattle.state.specs.Layout.{countOf}
 use Rattle.state.specs.DecoderState.{decoderOf}
-use Rattle.table_search.specs.Search.{lowestRow}
-use Rattle.table_search.proofs.Walking.{row-start, row-more, row-here, row-done}
+use Rattle.name_search.specs.Names.{lowestRow}
+use Rattle.name_search.proofs.LowestRow.{row-start, row-more, row-here, row-done}
 use Rattle.table_laws.specs.DecoderChanges.{DecoderStands}
 use Rattle.decoder_collect.specs.Ready.{readyAt}
 use Rattle.decoder_collect.proofs.ReadyRows.{changes}

@@ -1,6 +1,6 @@
 -- `read_index` meets its contract: a short index by what is read there, and all others by the reader.
 use mathlib.Core.Path.{sym, ap, _∙_}
-use Rattle.blocks.proofs.ShortReads.{short-index-reads}
+use Rattle.short_forms.proofs.ShortReads.{short-index-reads}
 use Rattle.decoder_fields.specs.Indexes.{indexIn}
 use borrow.Author.Needs.{needs}
 use Rattle.decoder_fields.proofs.write.read_index.Statement.{statement}

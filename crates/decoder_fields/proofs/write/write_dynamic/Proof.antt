@@ -9,7 +9,7 @@ use Rattle.blocks.proofs.MeaningHeld.{static-above}
 use Rattle.state.specs.Layout.{countOf}
 use Rattle.table_search.specs.Search.{findFrom}
 use Rattle.table_search.specs.declared.find.Found.the-variants.{At}
-use Rattle.table_search.specs.declared.place.EntryPlace.the-variants.{Dynamic, Nowhere}
+use Rattle.entry_places.specs.declared.place.EntryPlace.the-variants.{Dynamic, Nowhere}
 use Rattle.decoder_survey.specs.Measure.{fieldMeant, fieldBytes}
 use Rattle.decoder_survey.specs.Passes.{rowField}
 use Rattle.decoder_survey.proofs.Entries.{changes, Located, dynamic}

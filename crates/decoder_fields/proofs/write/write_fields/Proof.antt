@@ -8,13 +8,13 @@ use mathlib.Core.List.{List}
 use lib.ListN.{length}
 use Rattle.memory.specs.Bytes.{overlay}
 use Rattle.blocks.specs.Reading.{readRepresentation}
-use Rattle.blocks.specs.Short.{shortIndexAt, shortLiteralAt}
+use Rattle.short_forms.specs.Short.{shortIndexAt, shortLiteralAt}
 use Rattle.blocks.specs.declared.read.RepresentationPlace.the-variants.{Indexed}
 use Rattle.blocks.specs.declared.read.RepresentationRead.the-variants.{Found}
-use Rattle.blocks.specs.declared.short.ShortIndex.the-variants.{Found as ShortFound}
-use Rattle.blocks.specs.declared.short.ShortLiteral.the-variants.{Ends}
+use Rattle.short_forms.specs.declared.short.ShortIndex.the-variants.{Found as ShortFound}
+use Rattle.short_forms.specs.declared.short.ShortLiteral.the-variants.{Ends}
 use Rattle.blocks.proofs.Bounds.{representation-good}
-use Rattle.blocks.proofs.ShortReads.{short-index-reads}
+use Rattle.short_forms.proofs.ShortReads.{short-index-reads}
 use Rattle.decoder_survey.specs.Measure.{meaningOf, listBytes}
 use Rattle.decoder_survey.proofs.ShortForms.{short-length, ShortReads, short-reads}
 use Rattle.decoder_fields.proofs.Indexing.{row-found}

@@ -9,7 +9,7 @@ use Rattle.fields.specs.Form.{Field}
 use Rattle.fields.proofs.Sizes.{fieldForm-split}
 use Rattle.blocks.specs.Representation.{indexed}
 use Rattle.blocks.specs.Meaning.{field}
-use Rattle.table_search.specs.Place.{Here}
+use Rattle.entry_places.specs.Place.{Here}
 use Rattle.decoder_survey.specs.Measure.{fieldMeant}
 use Rattle.decoder_survey.proofs.Entries.{changes, Located, located}
 use Rattle.decoder_survey.proofs.Fields.{meant-length, meant-written, names-entry, found, standing}

@@ -9,7 +9,7 @@ use Rattle.wire.specs.Text.{stringBytes}
 use Rattle.fields.specs.Form.{Field}
 use Rattle.fields.proofs.Sizes.{field-written}
 use Rattle.blocks.specs.Meaning.{FieldMeaning, field}
-use Rattle.table_search.specs.Place.{Here}
+use Rattle.entry_places.specs.Place.{Here}
 use Rattle.decoder_survey.specs.Measure.{namedAt}
 use Rattle.decoder_survey.proofs.Entries.{changes, Located, located}
 use Rattle.decoder_survey.proofs.Fields.{meant-positive, meant-length, meant-written, names-name, found, standing}

@@ -11,7 +11,7 @@ use Rattle.blocks.specs.declared.read.RepresentationRead.{RepresentationRead}
 use Rattle.blocks.specs.declared.read.RepresentationRead.the-variants.{Found}
 use Rattle.wire.specs.declared.name.NamePlace.the-variants.{Index}
 use Rattle.blocks.proofs.Bounds.{representation-good}
-use Rattle.blocks.proofs.ShortReads.{short-named-reads}
+use Rattle.short_forms.proofs.ShortReads.{short-named-reads}
 use Rattle.decoder_survey.specs.declared.measure.Measured.{Measured}
 use Rattle.decoder_survey.specs.declared.measure.Step.{Step}
 use Rattle.decoder_survey.specs.declared.measure.Step.the-variants.{Refused}

@@ -9,7 +9,7 @@ use Rattle.blocks.specs.declared.read.RepresentationPlace.the-variants.{Indexed
 use Rattle.blocks.specs.declared.read.RepresentationRead.{RepresentationRead}
 use Rattle.blocks.specs.declared.read.RepresentationRead.the-variants.{Found}
 use Rattle.blocks.proofs.Bounds.{representation-good}
-use Rattle.blocks.proofs.ShortReads.{short-index-reads}
+use Rattle.short_forms.proofs.ShortReads.{short-index-reads}
 use Rattle.decoder_survey.specs.declared.measure.Measured.{Measured}
 use Rattle.decoder_survey.specs.declared.measure.Step.{Step}
 use Rattle.decoder_survey.specs.declared.measure.Step.the-variants.{Refused}

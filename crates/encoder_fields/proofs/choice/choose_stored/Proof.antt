@@ -6,7 +6,7 @@ use borrow.Author.Needs.{needs}
 use Rattle.memory.specs.Bytes.{Small}
 use Rattle.static_search.specs.Search.{findBoth}
 use Rattle.static_search.specs.declared.search.StaticFound.the-variants.{Nothing}
-use Rattle.table_search.proofs.Pairing.{paired-both, paired-name, paired-none}
+use Rattle.name_search.proofs.Pairing.{paired-both, paired-name, paired-none}
 use Rattle.encoder_fields.specs.Naming.{literalWith}
 use Rattle.encoder_fields.specs.Measure.{fieldWith}
 use Rattle.encoder_fields.specs.declared.name.NameChoice.the-variants.{Index, Bytes}

@@ -1,0 +1,2 @@
+// Bytes copied from slice to slice, by words.
+pub mod copy;

@@ -1,0 +1,3 @@
+-- The laws of `decoder_insert`: plain values, for the functions' proofs.
+pub mod Insertion
+pub mod Naming

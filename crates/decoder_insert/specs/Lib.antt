@@ -1,0 +1,2 @@
+-- The decoder's inserts.
+pub mod Inserts

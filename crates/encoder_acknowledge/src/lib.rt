@@ -1,0 +1,2 @@
+// The encoder's acknowledge call: an acknowledgement read.
+pub mod acknowledge;

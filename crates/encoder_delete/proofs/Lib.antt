@@ -1,0 +1,2 @@
+-- The laws of the encoder's delete call.
+pub mod Deleting

@@ -1,0 +1,2 @@
+// The encoder's delete call.
+pub mod delete;

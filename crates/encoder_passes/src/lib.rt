@@ -1,0 +1,3 @@
+// The passes over a field list: one measures the block where that is needed, one writes it and enters its references.
+pub mod refer;
+pub mod write;

@@ -1,0 +1,2 @@
+-- Where an entry stands, whichever table has it.
+pub mod Place

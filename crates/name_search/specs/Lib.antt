@@ -1,0 +1,2 @@
+-- Searches of the header table by name.
+pub mod Names

@@ -1,0 +1,2 @@
+-- Where a short representation stands.
+pub mod Short

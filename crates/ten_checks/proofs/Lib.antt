@@ -1,0 +1,2 @@
+-- That the ten checks hold.
+pub mod TenChecks
