@@ -3,11 +3,11 @@
 // argument names a file, `-` the standard input; with none, the sample recording is run.
 mod run;
 
-use run::break_off;
 use run::run;
 use text_io::files::open_argument;
 use text_io::incomplete::Why;
 use tokens::is;
+use transcript_log::broken_off::break_off;
 
 fn main() {
     let count = os::arg_count();

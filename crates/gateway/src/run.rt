@@ -8,13 +8,13 @@ use recorded_lines::LINE_BYTES;
 use recorded_lines::Ran;
 use recorded_lines::run_next;
 use text_io::incomplete::Why;
-use text_io::incomplete::incomplete;
 use text_io::lines::Reader;
-use text_io::print::Text;
 use transcript::calls::answered;
 use transcript::calls::bad;
-use transcript::finish::finish;
-use transcript::log::Log;
+use transcript_log::broken_off::break_off;
+use transcript_log::broken_off::ended;
+use transcript_log::finish::finish;
+use transcript_log::log::Log;
 
 // Runs a recording from fresh memory, and answers whether the output could be written.
 pub fn run(fd: i32) -> bool {
@@ -174,19 +174,4 @@ fn stopped(
         Stop::NotRead => break_off(more(number), Why::NotRead, true),
         Stop::NotWritten => break_off(more(number), Why::NotWritten, false),
     }
-}
-
-// Was the end of the transcript written?
-fn ended(t: Text, number: u64) -> bool {
-    if t.lost {
-        return break_off(number, Why::NotWritten, false);
-    }
-    true
-}
-
-// Says that the transcript is not complete, as its last line and on standard error, and answers whether the output could be written.
-pub fn break_off(line: u64, why: Why, written: bool) -> bool {
-    incomplete(libc::STDOUT_FILENO, line, why);
-    incomplete(libc::STDERR_FILENO, line, why);
-    written
 }

@@ -1,4 +1,5 @@
 -- What the gateway knows of a link.
+pub mod Doubts
 pub mod Ends
 pub mod Events
 pub mod Notes

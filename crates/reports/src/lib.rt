@@ -1,5 +1,4 @@
-// What a machine reports: which field lists are a report, its hours, and a field list in readable form.
-pub mod readable;
+// What a machine reports: which field lists are a report, its hours, and the form in which a byte of a field is shown.
 pub mod report;
 mod said;
 pub mod shown;

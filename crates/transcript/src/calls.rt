@@ -1,11 +1,4 @@
 // The lines of a recording as they are run: calls, and lines that are none.
-use crate::block::Offer;
-use crate::block::offered;
-use crate::lines;
-use crate::lines::anew_line;
-use crate::log::Log;
-use crate::tally::Count;
-use crate::waiting::still_waiting;
 use integers::answer::DONE;
 use link_state::events::Event;
 use link_state::events::Side;
@@ -19,10 +12,18 @@ use link_state::notes::note_waiting;
 use link_state::notes::note_written;
 use link_state::sums::block_sum;
 use machines::falls::RECORDS;
+use readable::form::filled;
 use recording::Call;
 use recording::Fault;
 use recording::Kind;
 use reply::Reply;
+use text_io::print::Text;
+use transcript_blocks::block::Offer;
+use transcript_blocks::block::offered;
+use transcript_lines::lines;
+use transcript_log::log::Log;
+use transcript_log::tally::Count;
+use transcript_log::waiting::still_waiting;
 
 // The first `n` bytes, or all where there are not so many.
 fn front<'a>(s: &'a [u8], n: usize) -> &'a [u8] {
@@ -37,9 +38,8 @@ pub fn bad(out: &mut [u8], log: Log, line: u64, fault: Fault) -> Log {
     let t = log.text;
     let a = lines::bad_line(out, t, line, fault);
     let ends = log.ends;
-    log.counting(Count::BadLines)
+    log.telling(Count::BadLines, 1, a)
         .with_ends(ends.after_bad_line(line))
-        .with_text(a)
 }
 
 // A call that was answered. Its bytes are the first of `bytes`, and what it wrote the first of `output`.
@@ -104,30 +104,25 @@ fn other(
 
 // The line of a call that is refused, cut short or left bytes over.
 fn eventful(out: &mut [u8], log: Log, line: u64, kind: Kind, event: Event, answer: u8) -> Log {
+    let t = log.text;
     match event {
         Event::Quiet | Event::Started => log,
-        Event::LeftOver(count) => left(out, log, line, kind, count),
-        Event::CutShort => cut(out, log, line, kind),
-        Event::Refused => refused(out, log, line, kind, answer),
+        Event::LeftOver(count) => {
+            log.telling(
+                Count::LeftOver,
+                1,
+                lines::left_line(out, t, line, kind, count),
+            )
+        }
+        Event::CutShort => log.telling(Count::CutShort, 1, lines::cut_line(out, t, line, kind)),
+        Event::Refused => {
+            log.telling(
+                Count::CallsRefused,
+                1,
+                lines::refused_line(out, t, line, kind, answer),
+            )
+        }
     }
-}
-
-fn left(out: &mut [u8], log: Log, line: u64, kind: Kind, count: u64) -> Log {
-    let t = log.text;
-    let a = lines::left_line(out, t, line, kind, count);
-    log.counting(Count::LeftOver).with_text(a)
-}
-
-fn cut(out: &mut [u8], log: Log, line: u64, kind: Kind) -> Log {
-    let t = log.text;
-    let a = lines::cut_line(out, t, line, kind);
-    log.counting(Count::CutShort).with_text(a)
-}
-
-fn refused(out: &mut [u8], log: Log, line: u64, kind: Kind, answer: u8) -> Log {
-    let t = log.text;
-    let a = lines::refused_line(out, t, line, kind, answer);
-    log.counting(Count::CallsRefused).with_text(a)
 }
 
 // A start that is done: what was noted of the end's tables before is forgotten.
@@ -145,6 +140,14 @@ fn started(
     }
 }
 
+// The line of an end that starts anew, in these words: nothing is told of its first table.
+fn anew(out: &mut [u8], t: Text, words: &[u8], line: u64, table: u64) -> Text {
+    if table < 2 {
+        return t;
+    }
+    filled(out, t, words, [line, table, 0, 0])
+}
+
 fn decoder_started(
     out: &mut [u8],
     log: Log,
@@ -156,7 +159,13 @@ fn decoder_started(
     forget_waiting(notes);
     machines::keep::begin_table(machines);
     let t = told.text;
-    let a = anew_line(out, t, line, Side::Decoder, told.ends.decoder.table);
+    let a = anew(
+        out,
+        t,
+        b"line #: decoder starts anew: table #\n",
+        line,
+        told.ends.decoder.table,
+    );
     told.with_text(a)
 }
 
@@ -164,7 +173,13 @@ fn encoder_started(out: &mut [u8], log: Log, line: u64, notes: &mut [u64; NOTES]
     let table = log.ends.encoder.table;
     begin_table(notes, table);
     let t = log.text;
-    let a = anew_line(out, t, line, Side::Encoder, table);
+    let a = anew(
+        out,
+        t,
+        b"line #: encoder starts anew: table #\n",
+        line,
+        table,
+    );
     log.with_text(a)
 }
 

@@ -1,2 +1,0 @@
--- Laws of the reasons against telling hours.
-pub mod Doubting

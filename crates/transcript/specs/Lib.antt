@@ -1,2 +1,0 @@
--- Which messages' hours are told.
-pub mod Doubts
