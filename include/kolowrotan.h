@@ -41,7 +41,7 @@ extern "C" {
 #endif
 
 /* The version of the library that this header belongs to: major, minor, patch. */
-#define KOLOWROTAN_VERSION "1.0.0"
+#define KOLOWROTAN_VERSION "1.1.0"
 
 /* The answers. */
 enum kolowrotan_answer {
@@ -49,7 +49,7 @@ enum kolowrotan_answer {
     KOLOWROTAN_WAITS = 1,              /* a block names a vacant index, which is told: keep the block and offer it again */
     KOLOWROTAN_TRUNCATED = 2,          /* the bytes end inside an instruction or representation; no management bytes at all */
     KOLOWROTAN_TOO_LARGE = 3,          /* an integer is too large or too long */
-    KOLOWROTAN_PACKED = 4,             /* a string's H bit is set */
+    KOLOWROTAN_PACKED = 4,             /* no call gives this: strings whose H bit is set are read */
     KOLOWROTAN_NOT_ALLOWED = 5,        /* an index or instruction that is not allowed here; an index outside 62 to 2^27 - 1 */
     KOLOWROTAN_HELD = 6,               /* an insert at an index that is held */
     KOLOWROTAN_OVER_LIMIT = 7,         /* the limit is passed; a start limit above 4,096 */
@@ -62,8 +62,12 @@ enum kolowrotan_answer {
     KOLOWROTAN_BAD_STREAM_LIST = 14,   /* a bad stream list */
     KOLOWROTAN_FULL = 15,              /* all 128 places are held */
     KOLOWROTAN_BAD_FIELD_LIST = 16,    /* the field list is not in its form */
-    KOLOWROTAN_NO_STATE = 17           /* the memory forms no state of this end */
+    KOLOWROTAN_NO_STATE = 17,          /* the memory forms no state of this end */
+    KOLOWROTAN_BAD_PACKING = 18        /* a packed string holds the end mark, or other padding than at most seven ones */
 };
+
+/* One more than the largest answer: as many counters as a host needs that counts answers. */
+#define KOLOWROTAN_ANSWERS 19
 
 /* A result is answer + 2^8 * first + 2^40 * second: these take it apart. */
 #define KOLOWROTAN_ANSWER(result) ((int)((uint64_t)(result) & 0xFFu))
@@ -82,7 +86,7 @@ size_t kolowrotan_encoder_length(void);
 #define KOLOWROTAN_LIMIT 4096         /* limit of a table */
 #define KOLOWROTAN_STREAMS 4096       /* message streams are numbered from 0 to one below this */
 #define KOLOWROTAN_ENTRIES 128        /* entries of a table */
-#define KOLOWROTAN_NAME_LENGTH 255
+#define KOLOWROTAN_NAME_LENGTH 255    /* of names, values and entries the bytes count as they are unpacked */
 #define KOLOWROTAN_VALUE_LENGTH 2047
 #define KOLOWROTAN_BLOCK_LENGTH 16384
 
@@ -90,6 +94,9 @@ size_t kolowrotan_encoder_length(void);
 #define KOLOWROTAN_INSERT_ROOM 2310
 #define KOLOWROTAN_DELETE_ROOM 10
 #define KOLOWROTAN_COLLECT_ROOM 5
+
+/* No management instruction that can be read takes more bytes: as many as a decoder's host keeps before it gives the link up on 2. */
+#define KOLOWROTAN_READ_ROOM 9228
 
 /* The parts of a message. */
 #define KOLOWROTAN_NONTRAILER 0
@@ -117,7 +124,7 @@ uint64_t kolowrotan_decoder_start(uint8_t *memory, size_t memory_length, uint64_
 /*
  * Reads one instruction, an insert or a delete, from the front of the management bytes. First told: the bytes that it took. Call it
  * again with the rest. On 2 keep the bytes and call again when more have come.
- * Answers: 17; the first of 2, 3, 4, 5, 13, 14 met in the bytes, left to right; an insert 8, 6, 7, 15; a delete 8, 9; 0.
+ * Answers: 17; the first of 2, 3, 5, 13, 14, 18 met in the bytes, left to right; an insert 8, 6, 7, 15; a delete 8, 9; 0.
  */
 uint64_t kolowrotan_decoder_read(uint8_t *memory, size_t memory_length, const uint8_t *bytes, size_t bytes_length);
 
@@ -126,7 +133,7 @@ uint64_t kolowrotan_decoder_read(uint8_t *memory, size_t memory_length, const ui
  * bytes written, on 0 alone. On 1 it is the index that the block waits for, the first in byte order, and no length: the output still holds
  * what stood there before, perhaps another block's fields. Keep the block and offer it again later. kolowrotan_fields of
  * kolowrotan_list.h takes the result and gives no field unless it is 0.
- * Answers: 17; 11; 13 a block above 16,384 bytes; the first of 2, 3, 4, 5, 13 met in the bytes, left to right; 1; 12; 0.
+ * Answers: 17; 11; 13 a block above 16,384 bytes; the first of 2, 3, 5, 13, 18 met in the bytes, left to right; 1; 12; 0.
  */
 uint64_t kolowrotan_decoder_block(uint8_t *memory, size_t memory_length, uint64_t stream, uint64_t part,
                                   const uint8_t *bytes, size_t bytes_length, uint8_t *output, size_t output_length);

@@ -36,9 +36,10 @@ static inline const char *kolowrotan_answer_name(int answer)
         "bad stream list",
         "all places held",
         "field list not in its form",
-        "memory forms no state"
+        "memory forms no state",
+        "packed string not in its form"
     };
-    if (answer < KOLOWROTAN_DONE || KOLOWROTAN_NO_STATE < answer)
+    if (answer < KOLOWROTAN_DONE || KOLOWROTAN_BAD_PACKING < answer)
         return "no answer of this library";
     return names[answer];
 }

@@ -9,6 +9,7 @@
 #include "calls.h"
 #include "kolowrotan.h"
 #include "lists.h"
+#include "packed.h"
 
 /* Bytes lent past what a table needs. */
 #define BEYOND 100
@@ -97,7 +98,7 @@ static void reads(void)
     decoder_read(AT, &memory, "BE 00 01 68 01", KOLOWROTAN_TRUNCATED, 0);
     decoder_read(AT, &memory, "FF 81 FF FF 3F", KOLOWROTAN_TOO_LARGE, 0);
     decoder_read(AT, &memory, "FF 80 80 80 80", KOLOWROTAN_TOO_LARGE, 0);
-    decoder_read(AT, &memory, "BE 00 FF", KOLOWROTAN_PACKED, 0);
+    decoder_read(AT, &memory, "BE 00 81 18 00", KOLOWROTAN_BAD_PACKING, 0);
     decoder_read(AT, &memory, "7F", KOLOWROTAN_NOT_ALLOWED, 0);
     decoder_read(AT, &memory, "BD 00 01 68 01 39", KOLOWROTAN_NOT_ALLOWED, 0);
     decoder_read(AT, &memory, "BE 00 7F 81 01", KOLOWROTAN_TOO_LONG, 0);
@@ -126,7 +127,7 @@ static void decoder_blocks(void)
     decoder_block_bytes(AT, &memory, 0, &longest, 0, KOLOWROTAN_TOO_LONG, 0);
     decoder_block(AT, &memory, 0, 0, "BE FF", 0, KOLOWROTAN_TRUNCATED, 0, "");
     decoder_block(AT, &memory, 0, 0, "BE FF 81 FF FF 3F", 0, KOLOWROTAN_TOO_LARGE, 0, "");
-    decoder_block(AT, &memory, 0, 0, "BE 00 80", 0, KOLOWROTAN_PACKED, 0, "");
+    decoder_block(AT, &memory, 0, 0, "BE 00 80 81 18", 0, KOLOWROTAN_BAD_PACKING, 0, "");
     decoder_block(AT, &memory, 0, 0, "BE 80", 0, KOLOWROTAN_NOT_ALLOWED, 0, "");
     decoder_block(AT, &memory, 0, 0, "BE 00 7F 81 01", 0, KOLOWROTAN_TOO_LONG, 0, "");
     decoder_block(AT, &memory, 0, 0, "82 BE BF", 0, KOLOWROTAN_WAITS, 62, "");
@@ -183,7 +184,8 @@ static void inserts(void)
 {
     struct lent memory = fresh_encoder(4096), small = fresh_encoder(33);
     struct lent name = lent_new(256, 'n'), value = lent_new(2048, 'v');
-    struct lent longest_name = lent_new(255, 'n'), longest_value = lent_new(2047, 'v'), none = lent_new(0, 0);
+    /* X has a code of eight bits: packed it is no shorter. */
+    struct lent longest_name = lent_new(255, 'X'), longest_value = lent_new(2047, 'X'), none = lent_new(0, 0);
     encoder_insert_bytes(AT, &memory, &name, &none, 0, KOLOWROTAN_TOO_LONG, 0, 0, "");
     encoder_insert_bytes(AT, &memory, &none, &value, 0, KOLOWROTAN_TOO_LONG, 0, 0, "");
     encoder_insert(AT, &small, "68", "39", 0, KOLOWROTAN_OVER_LIMIT, 0, 0, "");
@@ -237,9 +239,9 @@ static void deletes(void)
 
 static void encoder_blocks(void)
 {
-    struct lent memory = fresh_encoder(4096), list = lent_new(17 * 1004, 'v');
+    struct lent memory = fresh_encoder(4096), list = lent_new(17 * 1004, 'X');
     for (size_t at = 0; at < list.length; at += 1004)
-        memcpy(list.bytes + at, "\0\0\xE8\7", 4); /* an empty name, a value of 1,000 bytes: 1,005 on the wire */
+        memcpy(list.bytes + at, "\0\0\xE8\7", 4); /* an empty name, a value of 1,000 bytes that stays plain: 1,005 on the wire */
     lent_remember(&list);
     struct lent fits = lent_from(list.bytes, 16 * 1004);
     encoder_block(AT, &memory, 4096, 0, "02", 99, KOLOWROTAN_OUT_OF_TURN, 0, "");
@@ -275,6 +277,7 @@ int main(int count, char **arguments)
     inserts();
     deletes();
     encoder_blocks();
+    packed();
     lists();
     printf("library: %u checks, %u failures\n", checks, failures);
     return failures != 0;

@@ -6,7 +6,10 @@ use Prim.Native.Nat.{ℕ}
 use lib.Dec.{eqb}
 use Rattle.memory.specs.Choice.{pick}
 use Rattle.integers.specs.Integer.{readInt, groups, intWire, groupWire}
-use Rattle.wire.specs.Text.{readString, stringAfter, stringBytes, stringWire}
+use Rattle.huffman.specs.Codes.{codes, codeOf}
+use Rattle.huffman.specs.Bits.{bitsOf, valueOf, bytesOf}
+use Rattle.huffman.specs.Packing.{codeBits, codesOf, codesSize, packedSize, pack}
+use Rattle.wire.specs.Text.{plainPlace, textAt, readString, stringAfter, stringEnd, stringBytes, allBytes, packs, stringWire}
 use Rattle.wire.specs.Name.{Name, readName, nameWire}
 use Rattle.statics.specs.Ascii.{bytes}
 use Rattle.statics.specs.Table.{entries, entryAt}
@@ -20,21 +23,21 @@ use Rattle.blocks.specs.declared.read.RepresentationRead.the-variants.{F
 abbrev sample : List ℕ
 sample = 0x04 ∷ 0x0c ∷ 0x2f ∷ 0x73 ∷ 0x61 ∷ 0x6d ∷ 0x70 ∷ 0x6c ∷ 0x65 ∷ 0x2f ∷ 0x70 ∷ 0x61 ∷ 0x74 ∷ 0x68 ∷ []
 
-pub reading : (readRepresentation sample 0 ≡ Found (Literal 0 (Index (record { value = 4 })) (record { start = 2; size = 12 })) 14)
+pub reading : (readRepresentation sample 0 ≡ Found (Literal 0 (Index (record { value = 4 })) (plainPlace 2 12)) 14)
     × (readBlock sample ≡ block (literal 0 (Name.indexed 4) (bytes "/sample/path") ∷ []))
     × (readBlock (0x82 ∷ []) ≡ block (indexed 2 ∷ []))
     × (readBlock (0xbe ∷ 0x82 ∷ []) ≡ block (indexed 62 ∷ indexed 2 ∷ []))
     × (readBlock (0x7e ∷ 0x01 ∷ 0x37 ∷ []) ≡ block (literal 1 (Name.indexed 62) (0x37 ∷ []) ∷ []))
     × (readBlock (0x80 ∷ []) ≡ refused 5)
     × (readBlock [] ≡ block [])
-unfolding readInt groups readString stringAfter stringBytes readName readIndexed readLiteral readRepresentation blockFrom readBlock
+unfolding readInt groups readString stringAfter stringEnd textAt stringBytes readName readIndexed readLiteral readRepresentation blockFrom readBlock
 reading = (refl, refl, refl, refl, refl, refl, refl)
 
--- what is read above is what is written for it
-pub writing : (blockWire (literal 0 (Name.indexed 4) (bytes "/sample/path") ∷ []) ≡ sample)
+-- what is written for these: the longer string is packed
+pub writing : (blockWire (literal 0 (Name.indexed 4) (bytes "/sample/path") ∷ []) ≡ 0x04 ∷ 0x89 ∷ 0x61 ∷ 0x03 ∷ 0xa6 ∷ 0xba ∷ 0x0a ∷ 0xc5 ∷ 0x63 ∷ 0x4c ∷ 0xff ∷ [])
     × (blockWire (indexed 62 ∷ indexed 2 ∷ []) ≡ 0xbe ∷ 0x82 ∷ [])
     × (blockWire (literal 1 (Name.indexed 62) (0x37 ∷ []) ∷ []) ≡ 0x7e ∷ 0x01 ∷ 0x37 ∷ [])
-unfolding intWire groupWire stringWire nameWire representationWire blockWire
+unfolding intWire groupWire codes codeOf bitsOf valueOf bytesOf codeBits codesOf codesSize packedSize pack allBytes packs stringWire nameWire representationWire blockWire
 writing = (refl, refl, refl)
 
 -- index 62 holds what is given, and all above are vacant

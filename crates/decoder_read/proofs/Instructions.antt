@@ -18,11 +18,10 @@ use Rattle.instructions.specs.declared.read.InstructionPlace.the-variants.{Inse
 use Rattle.instructions.specs.declared.read.InstructionRead.{InstructionRead}
 use Rattle.instructions.specs.declared.read.InstructionRead.the-variants.{Found}
 use Rattle.instructions.proofs.Bounds.{decoder-good}
-use Rattle.decoder_read.proofs.Takes.{taken-few}
 
 module _ (s : List ℕ) (r : InstructionRead) (told : r ≡ readForDecoder s) (p : InstructionPlace) (taken : ℕ) (found : r ≡ Found p taken) where
-  pub taken-fits : taken ≤ 2322
-  taken-fits = taken-few s p taken (sym told ∙ found)
+  pub taken-fits : taken ≤ 9228
+  taken-fits = decoder-good s p taken (sym told ∙ found) .short
 
   good : (q : InstructionPlace) → p ≡ q → FineInstruction (instructionOf s q) × InBytes s q
   good q e =

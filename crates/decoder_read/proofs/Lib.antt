@@ -1,5 +1,4 @@
 -- The laws of `decoder_read`: plain values, for the functions' proofs.
-pub mod Takes
 pub mod Instructions
 pub mod Deletion
 pub mod Calls

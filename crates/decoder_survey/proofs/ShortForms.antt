@@ -11,6 +11,7 @@ use Rattle.integers.specs.Integer.{groupWire}
 use Rattle.wire.specs.Text.{stringBytes}
 use Rattle.wire.specs.declared.text.StringPlace.{StringPlace}
 use Rattle.wire.specs.declared.name.NamePlace.the-variants.{Text}
+use Rattle.wire.proofs.TextBounds.{plain-bytes}
 use Rattle.wire.proofs.ShortStrings.{GoodShort}
 use Rattle.fields.specs.Form.{textForm, fieldForm}
 use Rattle.fields.proofs.Sizes.{form-one}
@@ -28,13 +29,14 @@ use Rattle.decoder_survey.proofs.Fields.{means-literal}
 
 -- a string whose length takes one byte has the same bytes in the list, length and all
 short-text : (s : List ℕ) (at : ℕ) (p : StringPlace) (next : ℕ) → GoodShort s at p next → textForm (stringBytes s p) ≡ part s at (suc (p .size))
-unfolding textForm stringBytes
+unfolding textForm
 short-text s at p next G =
-    let l : length (part s (p .start) (p .size)) ≡ p .size = length-part s (p .start) (p .size) (omega (arith, G .size, G .start, G .ends, G .inside)) in
+    rw (plain-bytes s p (G .plain))
+    (let l : length (part s (p .start) (p .size)) ≡ p .size = length-part s (p .start) (p .size) (omega (arith, G .size, G .start, G .ends, G .inside)) in
     ap (λ (i : ℕ). groupWire 3 i ++ part s (p .start) (p .size)) l
     ∙ ap (λ (f : List ℕ). f ++ part s (p .start) (p .size)) (form-one (p .size) (omega (arith, G .size, G .low)))
     ∙ ap₂ (λ (i : ℕ) (q : ℕ). i ∷ part s q (p .size)) (G .size) (G .start)
-    ∙ sym (part-cons s at (p .size) (omega (arith, G .ends, G .inside)))
+    ∙ sym (part-cons s at (p .size) (omega (arith, G .ends, G .inside))))
 
 pub short-length : (s : List ℕ) (at next : ℕ) → at < next → next ≤ length s → length (shortForm s at next) ≡ next - at
 short-length s at next h k = omega (arith, length-part s (at + 1) (next - (at + 1)) (omega arith))

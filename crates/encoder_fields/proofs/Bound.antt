@@ -10,7 +10,9 @@ use borrow.Author.Tests.{le-leb, lt-leb}
 use Rattle.memory.specs.Choice.{pick}
 use Rattle.memory.specs.Bytes.{Small}
 use Rattle.memory.proofs.Order.{split, pick-both, need-true, need-false}
+use Rattle.wire.specs.Text.{wireSize}
 use Rattle.wire.specs.Name.{indexed as by-index, literal as by-bytes}
+use Rattle.wire.proofs.TextWriting.{size-within}
 use Rattle.static_search.specs.Search.{findName, findBoth}
 use Rattle.static_search.specs.declared.search.StaticFound.{StaticFound}
 use Rattle.static_search.specs.declared.search.StaticFound.the-variants.{At, Nothing}
@@ -66,10 +68,10 @@ module _ (l : List Sent) (f : Field) where
   literal-short flag = go (findName (f .name))
     where
       named : (j : ℕ) → Short (literal flag (by-index j) (f .value))
-      named j = omega (arith, literal-index-size flag j (f .value), int-most 6 j, string-most (length (f .value)))
+      named j = omega (arith, literal-index-size flag j (f .value), int-most 6 j, string-most (wireSize (f .value)), size-within (f .value))
 
       text : Short (literal flag (by-bytes (f .name)) (f .value))
-      text = omega (arith, literal-text-size flag (f .name) (f .value), string-most (length (f .name)), string-most (length (f .value)))
+      text = omega (arith, literal-text-size flag (f .name) (f .value), string-most (wireSize (f .name)), size-within (f .name), string-most (wireSize (f .value)), size-within (f .value))
 
       dynamic : (o : Option Sent) → Short (literal flag (dynamicName (f .name) o) (f .value))
       dynamic none = text

@@ -3,11 +3,13 @@ ghost use mathlib.Core.Path.{_≡_};
 ghost use mathlib.Core.Bool.{true};
 ghost use Prim.Native.Nat.{ℕ, _+_, _≤_, _<_};
 ghost use lib.ListN.{length};
+ghost use Rattle.wire.specs.Text.{wireSize};
 ghost use Rattle.state.specs.Layout.{countOf, heldOf};
 ghost use Rattle.state.specs.Forms.{formsEncoder};
 ghost use Rattle.table_search.specs.Search.{vacantRow};
 ghost use Rattle.table.specs.Changes.{inserted};
 ghost use Rattle.deletes.specs.Deletes.{unreferred};
+ghost use Rattle.sizes.specs.Sizes.{insertIndexSize, insertTextSize};
 ghost use Rattle.reply.specs.Reply.{answerOf};
 ghost use Rattle.encoder.specs.Calls.{insertCall};
 ghost use Rattle.encoder_insert.specs.Steps.{Fitting, fittingInsert};
@@ -23,8 +25,6 @@ use integers::answer::OVER_LIMIT;
 use integers::answer::TOO_LONG;
 use integers::number::TableIndex;
 use reply::Reply;
-use sizes::insert_index_size;
-use sizes::insert_text_size;
 use state::encoder::forms_encoder;
 use state::head::count_of;
 use state::layout::ENTRY_SIZE;
@@ -33,6 +33,22 @@ use table_rows::fits;
 use table_search::find::lowest_vacant;
 use wire::text::NAME_LIMIT;
 use wire::text::VALUE_LIMIT;
+use wire::text::wire_size;
+
+// How many bytes an insert takes whose name is by index, and one whose name is by its bytes.
+fn insert_index_size(index: TableIndex, name: TableIndex, value: &[u8]) -> usize
+    requires { ⌜ length (now value) ≤ 2047 ⌝ }
+    ensures { λ r. ⌜ (r ≡ insertIndexSize (index .value) (name .value) (wireSize (now (value .entry)))) × (r ≤ 2062) ⌝ }
+{
+    sizes::insert_index_size(index, name, wire_size(value))
+}
+
+fn insert_text_size(index: TableIndex, name: &[u8], value: &[u8]) -> usize
+    requires { ⌜ (length (now name) ≤ 255) × (length (now value) ≤ 2047) ⌝ }
+    ensures { λ r. ⌜ (r ≡ insertTextSize (index .value) (wireSize (now (name .entry))) (wireSize (now (value .entry)))) × (r ≤ 4110) ⌝ }
+{
+    sizes::insert_text_size(index, wire_size(name), wire_size(value))
+}
 
 // Puts the entry in at its place, referred to by no block.
 fn enter(m: &mut [u8], place: usize, index: TableIndex, name: &[u8], value: &[u8])
@@ -57,7 +73,7 @@ fn insert_fitting(m: &mut [u8], name: &[u8], value: &[u8], out: &mut [u8]) -> Re
     let index = TableIndex::new(TableIndex::FIRST + (place as u32));
     match choice {
         NameChoice::Index(i) => {
-            let n = insert_index_size(index, i, value.len());
+            let n = insert_index_size(index, i, value);
             if out.len() < n {
                 return Reply::refused(NO_ROOM);
             }
@@ -66,7 +82,7 @@ fn insert_fitting(m: &mut [u8], name: &[u8], value: &[u8], out: &mut [u8]) -> Re
             Reply::done(n as u32, index.value)
         }
         NameChoice::Bytes => {
-            let n = insert_text_size(index, name.len(), value.len());
+            let n = insert_text_size(index, name, value);
             if out.len() < n {
                 return Reply::refused(NO_ROOM);
             }

@@ -61,7 +61,7 @@ use Rattle.instructions.proofs.Equations.{
 pub record ForDecoder (s : List ℕ) (p : InstructionPlace) (taken : ℕ) : Type 0 where
   pub some : 1 ≤ taken
   pub inside : taken ≤ length s
-  pub short : taken ≤ 2322
+  pub short : taken ≤ 9228
   pub kind : Manages (instructionOf s p)
   pub fine : FineInstruction (instructionOf s p)
   pub bytes : InBytes s p

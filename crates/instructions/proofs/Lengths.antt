@@ -11,7 +11,7 @@ use Rattle.integers.proofs.Lengths.{int-one, int-within, int-length, int-bytes-
 use Rattle.wire.specs.Text.{stringWire}
 use Rattle.wire.specs.Name.{Name, FineName, nameWire}
 use Rattle.wire.specs.StreamList.{StreamList, Fits, deltasWire, listWire}
-use Rattle.wire.proofs.TextWriting.{string-length-wire, index-wire, literal-length-wire}
+use Rattle.wire.proofs.TextWriting.{string-within, string-small, index-wire, literal-length-wire}
 use Rattle.wire.proofs.ListBack.{list-size}
 use Rattle.instructions.specs.Instruction.{Instruction, insert, delete, acknowledge, FineList, FineInstruction, instructionWire}
 use Rattle.instructions.proofs.Writing.{acknowledge-wire, insert-length, delete-length}
@@ -37,12 +37,11 @@ instruction-some (acknowledge i) = acknowledge-length i .0
 name-size : (n : Name) → FineName n → length (nameWire 8 0 n) ≤ 259
 name-size (Name.indexed i) f = omega (arith, ap length (index-wire 8 0 i), int-length 8 0 i)
 name-size (Name.literal xs) f =
-    omega (arith, literal-length-wire 8 0 xs, int-one 8 0 0 (omega arith), string-length-wire xs, int-within 7 0 (length xs) 1 (omega arith))
+    omega (arith, literal-length-wire 8 0 xs, int-one 8 0 0 (omega arith), string-within xs 1 (omega arith))
 
 pub insert-size : (i : ℕ) (name : Name) (value : List ℕ) → FineInstruction (insert i name value) → length (instructionWire (insert i name value)) ≤ 2314
 insert-size i name value f =
-    let v = int-within 7 0 (length value) 1 (omega arith) in
-    omega (arith, insert-length i i refl name value, int-length 7 128 i, name-size name (f .1), string-length-wire value)
+    omega (arith, insert-length i i refl name value, int-length 7 128 i, name-size name (f .1), string-within value 1 (omega (arith, f .2)))
 
 pub delete-size : (i : ℕ) (nontrailer trailer : StreamList) → FineInstruction (delete i nontrailer trailer) → length (instructionWire (delete i nontrailer trailer)) ≤ 109
 delete-size i nontrailer trailer f =
@@ -53,10 +52,6 @@ delete-size i nontrailer trailer f =
       list-size (nontrailer .horizon) (nontrailer .streams) (f .1 .0) (f .1 .1) (f .1 .2),
       list-size (trailer .horizon) (trailer .streams) (f .2 .0) (f .2 .1) (f .2 .2),
     )
-
-string-small : (xs : List ℕ) → length xs ≤ 2047 → Small xs → Small (stringWire xs)
-unfolding stringWire
-string-small xs h k = small-append (intWire 7 0 (length xs)) xs (int-bytes-small 7 0 (length xs) (omega arith) (omega arith)) k
 
 -- the bytes of a name are bytes
 abbrev pub SmallName : Name → Type 0

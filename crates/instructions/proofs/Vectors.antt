@@ -4,7 +4,10 @@ use mathlib.Core.Path.{_≡_, refl}
 use mathlib.Core.List.{List, [], _∷_}
 use Prim.Native.Nat.{ℕ}
 use Rattle.integers.specs.Integer.{readInt, groups, intWire, groupWire}
-use Rattle.wire.specs.Text.{stringBytes, stringAfter, readString, stringWire}
+use Rattle.huffman.specs.Codes.{codes, codeOf}
+use Rattle.huffman.specs.Bits.{bitsOf, valueOf, bytesOf}
+use Rattle.huffman.specs.Packing.{codeBits, codesOf, codesSize, packedSize, pack}
+use Rattle.wire.specs.Text.{plainPlace, textAt, stringBytes, stringAfter, stringEnd, readString, allBytes, packs, stringWire}
 use Rattle.wire.specs.Name.{Name, readName, nameWire}
 use Rattle.wire.specs.StreamList.{StreamList, readDelta, readDeltas, streamsFrom, readList, deltasWire, listWire}
 use Rattle.wire.specs.declared.name.NamePlace.the-variants.{Text}
@@ -43,7 +46,7 @@ Written = (instructionWire (insert 127 (Name.indexed 1) []) ≡ 0xff ∷ 0x00 �
     × (instructionWire inserted ≡ bytes)
 
 pub written : Written
-unfolding instructionWire intWire groupWire nameWire stringWire listWire deltasWire
+unfolding instructionWire intWire groupWire nameWire codes codeOf codesSize packedSize allBytes packs stringWire listWire deltasWire
 written = (refl, refl, refl, refl, refl, refl, refl)
 
 -- an index above the largest: 3; an acknowledgement for the decoder: 5; nothing: 2
@@ -67,8 +70,8 @@ refusals = (refl, refl, refl, refl, refl, refl, refl, refl, refl, refl)
 abbrev Decoded : List ℕ → InstructionPlace → ℕ → Instruction → Type 0
 Decoded s p taken i = (readForDecoder s ≡ Found p taken) × (instructionOf s p ≡ i)
 
-pub decoded : Decoded bytes (Insert (record { value = 62 }) (Text (record { start = 3; size = 1 })) (record { start = 5; size = 1 })) 6 inserted
-unfolding readForDecoder readInsert readIndex readName readString stringAfter stringBytes readInt groups
+pub decoded : Decoded bytes (Insert (record { value = 62 }) (Text (plainPlace 3 1)) (plainPlace 5 1)) 6 inserted
+unfolding readForDecoder readInsert readIndex readName readString stringAfter stringEnd textAt stringBytes readInt groups
 decoded = (refl, refl)
 
 -- a delete with horizon 5 for non-trailer blocks and 0 for trailer blocks, and no streams listed

@@ -85,6 +85,10 @@ bad-field-list = 16
 abbrev pub no-state : ℕ
 no-state = 17
 
+-- a packed string holds the end mark, or other padding than at most seven ones
+abbrev pub bad-packing : ℕ
+bad-packing = 18
+
 -- is n among these numbers?
 abbrev pub among : List ℕ → ℕ → Bool
 among [] n = false

@@ -51,3 +51,6 @@ pub const BAD_FIELD_LIST: u8 = 16;
 
 // The memory forms no state.
 pub const NO_STATE: u8 = 17;
+
+// A packed string holds the end mark, or other padding than at most seven ones.
+pub const BAD_PACKING: u8 = 18;

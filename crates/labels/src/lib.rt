@@ -40,7 +40,8 @@ pub fn answer_name(out: &mut [u8], t: Text, answer: u8) -> Text {
         bad stream list\n\
         all places held\n\
         field list not in its form\n\
-        memory forms no state\n";
+        memory forms no state\n\
+        packed string not in its form\n";
     entry(out, t, table, answer as usize)
 }
 

@@ -61,7 +61,7 @@ enquiring i = atDecoder (calls.DecoderCall.hold i)
 
 -- ---- an instruction that was read: the bytes taken are told
 
-module _ (D : Decoder) (s : List ℕ) (taken : ℕ) (inside : taken ≤ length s) (short : taken ≤ 2322) where
+module _ (D : Decoder) (s : List ℕ) (taken : ℕ) (inside : taken ≤ length s) (short : taken ≤ 9228) where
   took : (E : Decoder) → Says (reading s) (finish E taken 0 nothing)
   took E = first-says (reading s) E taken nothing refl refl inside (omega arith)
 

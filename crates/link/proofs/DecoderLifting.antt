@@ -11,9 +11,8 @@ use borrow.Author.Tests.{leb-true}
 use Rattle.memory.specs.Choice.{pick, need}
 use Rattle.memory.specs.Bytes.{Small}
 use Rattle.memory.proofs.Order.{pick-both, need-both, need-true}
-use Rattle.memory.proofs.Overlay.{small-part}
 use Rattle.integers.specs.Answers.{refusal, done, over-limit, no-room, out-of-turn}
-use Rattle.wire.specs.Text.{stringBytes}
+use Rattle.wire.proofs.TextBounds.{string-bytes-small}
 use Rattle.wire.specs.Name.{nameOf}
 use Rattle.wire.specs.declared.text.StringPlace.{StringPlace}
 use Rattle.wire.specs.declared.name.NamePlace.{NamePlace}
@@ -49,16 +48,12 @@ use Rattle.link.proofs.StatesKept.{SmallDecoderCall, KeptDecoder, kept-
 
 -- ---- the model's calls that bytes give: fine instructions, with strings of bytes
 
-string-bytes : (s : List ℕ) → Small s → (p : StringPlace) → Small (stringBytes s p)
-unfolding stringBytes
-string-bytes s b p = small-part s (p .start) (p .size) b
-
 name-bytes : (s : List ℕ) → Small s → (p : NamePlace) → SmallName (nameOf s p)
 name-bytes s b (Index i) = tt
-name-bytes s b (Text p) = string-bytes s b p
+name-bytes s b (Text p) = string-bytes-small s p b
 
 place-bytes : (s : List ℕ) → Small s → (p : InstructionPlace) → SmallText (instructionOf s p)
-place-bytes s b (Insert i name value) = (name-bytes s b name, string-bytes s b value)
+place-bytes s b (Insert i name value) = (name-bytes s b name, string-bytes-small s value b)
 place-bytes s b (Delete i nontrailer trailer) = tt
 place-bytes s b (Acknowledge i) = tt
 

@@ -3,7 +3,10 @@ use Prim.Native.Nat.{ℕ}
 use mathlib.Core.List.{List}
 use Rattle.memory.specs.Compare.{same}
 use Rattle.integers.specs.Integer.{readInt, groups, intWire, groupWire}
-use Rattle.wire.specs.Text.{stringBytes, stringAfter, readString, stringWire}
+use Rattle.huffman.specs.Codes.{codes, codeOf}
+use Rattle.huffman.specs.Bits.{bitsOf, valueOf, bits, bytesOf, begins}
+use Rattle.huffman.specs.Packing.{codeBits, codesOf, codesSize, packedSize, pack, standingIn, standing, padding, unpackBits, unpack}
+use Rattle.wire.specs.Text.{textAt, stringBytes, stringAfter, stringEnd, readString, allBytes, packs, stringWire}
 use Rattle.wire.specs.Name.{readName, nameWire}
 use Rattle.wire.specs.StreamList.{readDelta, readDeltas, streamsFrom, readList, names, listed, listWire, deltasWire}
 use Rattle.statics.specs.Table.{entries, entryAt}
@@ -34,7 +37,8 @@ use Rattle.link_examples.specs.Examples.{Shown}
 use Rattle.link_examples.proofs.Seen.{see, seenFrom}
 
 unfoldable pub computed : ℕ → ℕ → List LinkCall → List Shown
-unfolding same readInt groups intWire groupWire stringBytes stringAfter readString stringWire readName nameWire
+unfolding same readInt groups intWire groupWire codes codeOf bitsOf valueOf bits bytesOf begins codeBits codesOf codesSize packedSize pack
+    standingIn standing padding unpackBits unpack textAt stringBytes stringAfter stringEnd readString allBytes packs stringWire readName nameWire
     readDelta readDeltas streamsFrom readList names listed listWire deltasWire
     entries entryAt hasName hasBoth lowest-static lowestName lowestBoth textForm fieldForm listForm readLength readText readField fieldsFrom
     instructionWire readIndex readInsert readDelete readAcknowledgement readForDecoder readForEncoder

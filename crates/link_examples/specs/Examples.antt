@@ -132,12 +132,12 @@ report-A = report (bytes "4100") (bytes "2")
 abbrev pub report-B : List ℕ
 report-B = report (bytes "310") (bytes "0")
 
--- what is written for them: the hours as a literal, the turns by index
+-- what is written for them: the hours as a literal, the turns by index. "hours", "turns" and the counters are packed, since that is shorter.
 abbrev pub insert-A : List ℕ
-insert-A = 0xBE ∷ 0x00 ∷ 0x05 ∷ 0x74 ∷ 0x75 ∷ 0x72 ∷ 0x6E ∷ 0x73 ∷ 0x01 ∷ 0x32 ∷ []
+insert-A = 0xBE ∷ 0x00 ∷ 0x84 ∷ 0x4D ∷ 0xB6 ∷ 0x54 ∷ 0x8F ∷ 0x01 ∷ 0x32 ∷ []
 
 abbrev pub block-A : List ℕ
-block-A = 0x00 ∷ 0x05 ∷ 0x68 ∷ 0x6F ∷ 0x75 ∷ 0x72 ∷ 0x73 ∷ 0x04 ∷ 0x34 ∷ 0x31 ∷ 0x30 ∷ 0x30 ∷ 0xBE ∷ []
+block-A = 0x00 ∷ 0x84 ∷ 0x9C ∷ 0xF6 ∷ 0xD8 ∷ 0x8F ∷ 0x83 ∷ 0x68 ∷ 0x20 ∷ 0x07 ∷ 0xBE ∷ []
 
 -- the late report's stream is 5, so the horizon is 6
 abbrev pub delete-A : List ℕ
@@ -145,10 +145,10 @@ delete-A = 0x3E ∷ 0x06 ∷ 0x00 ∷ 0x00 ∷ 0x00 ∷ []
 
 -- another index: 62 is still held
 abbrev pub insert-B : List ℕ
-insert-B = 0xBF ∷ 0x00 ∷ 0x05 ∷ 0x74 ∷ 0x75 ∷ 0x72 ∷ 0x6E ∷ 0x73 ∷ 0x01 ∷ 0x30 ∷ []
+insert-B = 0xBF ∷ 0x00 ∷ 0x84 ∷ 0x4D ∷ 0xB6 ∷ 0x54 ∷ 0x8F ∷ 0x01 ∷ 0x30 ∷ []
 
 abbrev pub block-B : List ℕ
-block-B = 0x00 ∷ 0x05 ∷ 0x68 ∷ 0x6F ∷ 0x75 ∷ 0x72 ∷ 0x73 ∷ 0x03 ∷ 0x33 ∷ 0x31 ∷ 0x30 ∷ 0xBF ∷ []
+block-B = 0x00 ∷ 0x84 ∷ 0x9C ∷ 0xF6 ∷ 0xD8 ∷ 0x8F ∷ 0x82 ∷ 0x64 ∷ 0x20 ∷ 0xBF ∷ []
 
 unfoldable pub accident : List Shown
 accident =
@@ -158,19 +158,19 @@ accident =
     call (ended 2) (done 0 0) [] ∷
     call (ended 3) (done 0 0) [] ∷
     call (ended 4) (done 0 0) [] ∷
-    call (atEncoder (insert (bytes "turns") (bytes "2") room)) (done 10 62) insert-A ∷
-    call (read insert-A) (done 10 0) [] ∷
+    call (atEncoder (insert (bytes "turns") (bytes "2") room)) (done 9 62) insert-A ∷
+    call (read insert-A) (done 9 0) [] ∷
     -- loader A's report is written, and is late; its entry is deleted
-    call (atEncoder (EncoderCall.block 5 0 report-A room)) (done 13 0) block-A ∷
+    call (atEncoder (EncoderCall.block 5 0 report-A room)) (done 11 0) block-A ∷
     call (atEncoder (delete 62 room)) (done 5 0) delete-A ∷
     call (read delete-A) (done 5 0) [] ∷
     -- the entry is not freed, though its acknowledgement has room: one part holds it, on stream 5
     call (collect (replicate 1 0)) (done 0 0) [] ∷
     call (hold 62) (done 1 5) [] ∷
     -- loader B's "turns 0"
-    call (atEncoder (insert (bytes "turns") (bytes "0") room)) (done 10 63) insert-B ∷
-    call (read insert-B) (done 10 0) [] ∷
-    call (atEncoder (EncoderCall.block 6 0 report-B room)) (done 12 0) block-B ∷
+    call (atEncoder (insert (bytes "turns") (bytes "0") room)) (done 9 63) insert-B ∷
+    call (read insert-B) (done 9 0) [] ∷
+    call (atEncoder (EncoderCall.block 6 0 report-B room)) (done 10 0) block-B ∷
     call (offer 1 6 0 block-B room) (done 20 0) report-B ∷
     -- nor is the entry freed now
     call (collect room) (done 0 0) [] ∷

@@ -4,7 +4,10 @@ use Prim.Native.Nat.{ℕ}
 use mathlib.Core.List.{List}
 use Rattle.memory.specs.Compare.{same}
 use Rattle.integers.specs.Integer.{intWire, groupWire}
-use Rattle.wire.specs.Text.{stringWire}
+use Rattle.huffman.specs.Codes.{codes, codeOf}
+use Rattle.huffman.specs.Bits.{bitsOf, valueOf, bytesOf}
+use Rattle.huffman.specs.Packing.{codeBits, codesOf, codesSize, packedSize, pack}
+use Rattle.wire.specs.Text.{allBytes, packs, stringWire}
 use Rattle.wire.specs.Name.{nameWire}
 use Rattle.wire.specs.StreamList.{names, listed, listWire, deltasWire}
 use Rattle.statics.specs.Table.{entries, entryAt}
@@ -25,7 +28,7 @@ use Rattle.model.specs.EncoderCalls.{encoderCall}
 use Rattle.model.specs.Events.{LinkCall, Event, saidBy, wroteBy, encoderEvent, freedBy, toldBy, decoderEvent, turn, events, endsAfter, fresh}
 
 unfoldable pub run : ℕ → ℕ → List LinkCall → List Event
-unfolding same intWire groupWire stringWire nameWire names listed listWire deltasWire entries entryAt hasName hasBoth lowest-static lowestName lowestBoth
+unfolding same intWire groupWire codes codeOf bitsOf valueOf bytesOf codeBits codesOf codesSize packedSize pack allBytes packs stringWire nameWire names listed listWire deltasWire entries entryAt hasName hasBoth lowest-static lowestName lowestBoth
     textForm fieldForm listForm instructionWire representationWire blockWire isStatic withStatics fieldMeaning blockMeaning blockReferences
     size look put cut lowest vacantFrom total partOf mark markBoth inTurn namesPart isOpen openBelow isReady
     heldSize slotIn lookup deleteOf startDecoder slotName nameBytes insertNamed deleteEntry readInstruction giveFields decodePart decodeBlock

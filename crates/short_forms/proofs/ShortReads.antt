@@ -12,6 +12,7 @@ use Rattle.integers.specs.declared.integer.ShortInt.{ShortInt}
 use Rattle.integers.specs.declared.integer.ShortInt.the-variants.{Value, Other as NoInt}
 use Rattle.integers.proofs.Groups.{readInt-small}
 use Rattle.integers.proofs.Short.{short-int-reads}
+use Rattle.wire.specs.Text.{plainPlace}
 use Rattle.wire.specs.Short.{shortStringAt}
 use Rattle.wire.specs.declared.text.StringPlace.{StringPlace}
 use Rattle.wire.specs.declared.text.ShortString.{ShortString}
@@ -81,23 +82,23 @@ module _ (s : List ℕ) (at : ℕ) (h : at < length s) (low : getD s at 0 < 128)
       let i : readInt 6 s at ≡ IntValue (record { value = 0 }) (at + 1) =
       readInt-small 6 s at h (getD s at 0) 64 refl refl (omega arith) ∙ ap (λ (x : ℕ). IntValue (record { value = x }) (at + 1)) z
       in
-      let front : GoodShort s (at + 1) (record { start = at + 1 + 1; size = n }) (at + 2 + n) =
-      subst (GoodShort s (at + 1) (record { start = at + 1 + 1; size = n })) p
-      (short-string-good s (at + 1) (record { start = at + 1 + 1; size = n }) (at + 1 + 1 + n) (short-string-found s (at + 1) (omega arith) n e k (omega arith)))
+      let front : GoodShort s (at + 1) (plainPlace (at + 1 + 1) n) (at + 2 + n) =
+      subst (GoodShort s (at + 1) (plainPlace (at + 1 + 1) n)) p
+      (short-string-good s (at + 1) (plainPlace (at + 1 + 1) n) (at + 1 + 1 + n) (short-string-found s (at + 1) (omega arith) n e k (omega arith)))
       in
-      let back : GoodShort s (at + 2 + n) (record { start = at + 2 + n + 1; size = v }) (at + 3 + n + v) =
-      subst (GoodShort s (at + 2 + n) (record { start = at + 2 + n + 1; size = v })) q
-      (short-string-good s (at + 2 + n) (record { start = at + 2 + n + 1; size = v }) (at + 2 + n + 1 + v) (short-string-found s (at + 2 + n) (omega arith) v d j (omega arith)))
+      let back : GoodShort s (at + 2 + n) (plainPlace (at + 2 + n + 1) v) (at + 3 + n + v) =
+      subst (GoodShort s (at + 2 + n) (plainPlace (at + 2 + n + 1) v)) q
+      (short-string-good s (at + 2 + n) (plainPlace (at + 2 + n + 1) v) (at + 2 + n + 1 + v) (short-string-found s (at + 2 + n) (omega arith) v d j (omega arith)))
       in
       record {
-        name = record { start = at + 1 + 1; size = n };
-        value = record { start = at + 2 + n + 1; size = v };
+        name = plainPlace (at + 1 + 1) n;
+        value = plainPlace (at + 2 + n + 1) v;
         middle = at + 2 + n;
         reads =
             representation-literal s at h low
-            ∙ literal-found s at _ refl (Text (record { start = at + 1 + 1; size = n })) (at + 2 + n)
-            (name-text 6 s at _ refl (record { value = 0 }) (at + 1) i refl _ refl (record { start = at + 1 + 1; size = n }) (at + 2 + n) (front .reads 255 (omega arith))) _ refl
-            (record { start = at + 2 + n + 1; size = v }) (at + 3 + n + v) (back .reads 2047 (omega arith));
+            ∙ literal-found s at _ refl (Text (plainPlace (at + 1 + 1) n)) (at + 2 + n)
+            (name-text 6 s at _ refl (record { value = 0 }) (at + 1) i refl _ refl (plainPlace (at + 1 + 1) n) (at + 2 + n) (front .reads 255 (omega arith))) _ refl
+            (plainPlace (at + 2 + n + 1) v) (at + 3 + n + v) (back .reads 2047 (omega arith));
         front = front;
         back = back;
       }

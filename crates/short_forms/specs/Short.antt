@@ -1,4 +1,4 @@
--- Short representations, exactly where they stand: an index takes one byte or two, and a string's length one.
+-- Short representations, exactly where they stand: an index takes one byte or two, and strings are plain with a length of one byte.
 use Prim.Native.Nat.{ℕ, _+_, _-_, _%_}
 use mathlib.Core.List.{List}
 use lib.ListN.{length, getD}

@@ -1,4 +1,4 @@
-// Short representations: an index takes one byte or two, and a string's length one. Most are, so the passes over a block look for these first.
+// Short representations: an index takes one byte or two, and strings are plain with a length of one byte. The passes over a block look for these first.
 ghost use mathlib.Core.Path.{_≡_};
 ghost use Prim.Native.Nat.{_<_, _≤_};
 ghost use lib.ListN.{length, getD};

@@ -1,6 +1,10 @@
 // What was read, written to the standard output: what the programs share. No library that a host links uses it.
+ghost use mathlib.Core.Path.{_≡_};
+ghost use mathlib.Core.Bool.{true};
 ghost use Prim.Native.Nat.{ℕ, _≤_};
+ghost use Rattle.wire.specs.Text.{InString};
 ghost use Rattle.wire.specs.StreamList.{horizonLimit};
+use unpacking::unpack::unpacked_size;
 use wire::name::NamePlace;
 use wire::stream_list::DeltaRead;
 use wire::stream_list::HORIZON_LIMIT;
@@ -8,8 +12,10 @@ use wire::stream_list::ListPlace;
 use wire::stream_list::read_delta;
 use wire::text::StringPlace;
 
-// The longest string that is shown.
+// The longest string that is shown, and the most bytes that a packed one takes.
 const SHOWN: usize = 256;
+
+const PACKED_LIMIT: usize = 8_188;
 
 pub fn words(text: &[u8]) {
     io::write_all(1, text);
@@ -38,14 +44,39 @@ pub fn bytes(s: &[u8]) {
     }
 }
 
-// The bytes of a string of at most `SHOWN` bytes that lies in `s`, as every string that was read does.
+// Is a string there, whole and of the length that its place tells? Every string that was read is.
+fn is_there(s: &[u8], place: StringPlace) -> bool
+    ensures { λ r. ⌜ (r ≡ true → InString (now (s .entry)) place) ⌝ }
+{
+    let start = place.start;
+    let size = place.size;
+    if s.len() < start {
+        return false;
+    }
+    if s.len() - start < size {
+        return false;
+    }
+    if !place.packed {
+        return size == place.length;
+    }
+    if PACKED_LIMIT < size {
+        return false;
+    }
+    let u = unpacked_size(s, start, start + size);
+    if !u.whole {
+        return false;
+    }
+    u.count == place.length
+}
+
+// The bytes of a string of at most `SHOWN` bytes that is there.
 pub fn string(label: &[u8], s: &[u8], place: StringPlace) {
     words(label);
     if SHOWN < place.length(s) {
         words(b"long");
         return;
     }
-    if s.len() < place.start || s.len() - place.start < place.size {
+    if !is_there(s, place) {
         words(b"outside");
         return;
     }

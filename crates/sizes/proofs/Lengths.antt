@@ -9,7 +9,7 @@ use Rattle.memory.proofs.Order.{split}
 use Rattle.integers.specs.Integer.{intWire, groupWire}
 use Rattle.integers.proofs.Writing.{last-group, next-group, int-past-prefix}
 use Rattle.integers.proofs.Lengths.{int-one}
-use Rattle.wire.specs.Text.{stringWire}
+use Rattle.wire.specs.Text.{wireSize, stringWire}
 use Rattle.wire.specs.Name.{Name, nameWire}
 use Rattle.wire.specs.StreamList.{listWire, deltasWire}
 use Rattle.wire.proofs.TextWriting.{string-length-wire, index-wire, literal-length-wire}
@@ -50,26 +50,26 @@ int-size k top v =
     (λ h. let e = ap length (int-past-prefix k top v (2 ^ k) refl h) in
     omega (arith, groups-size (v - (2 ^ k - 1)), int-groups k v (2 ^ k - 1) refl h))
 
-pub string-size : (xs : List ℕ) → length (stringWire xs) ≡ stringSize (length xs)
+pub string-size : (xs : List ℕ) → length (stringWire xs) ≡ stringSize (wireSize xs)
 unfolding stringSize
-string-size xs = omega (arith, string-length-wire xs, int-size 7 0 (length xs))
+string-size xs = omega (arith, string-length-wire xs 0, int-size 7 0 (wireSize xs))
 
 -- a name's index, or a byte that says that a string follows
 module _ (k top : ℕ) where
   index-size : (j : ℕ) → length (nameWire k top (Name.indexed j)) ≡ intSize k j
   index-size j = ap length (index-wire k top j) ∙ int-size k top j
 
-  text-size : (name : List ℕ) → 0 < 2 ^ k - 1 → length (nameWire k top (Name.literal name)) ≡ 1 + stringSize (length name)
+  text-size : (name : List ℕ) → 0 < 2 ^ k - 1 → length (nameWire k top (Name.literal name)) ≡ 1 + stringSize (wireSize name)
   text-size name h = omega (arith, literal-length-wire k top name, int-one k top 0 h, string-size name)
 
 pub insert-index-size : (i j : ℕ) (value : List ℕ)
-    → length (instructionWire (insert i (Name.indexed j) value)) ≡ insertIndexSize i j (length value)
+    → length (instructionWire (insert i (Name.indexed j) value)) ≡ insertIndexSize i j (wireSize value)
 unfolding insertIndexSize
 insert-index-size i j value =
     omega (arith, insert-length i i refl (Name.indexed j) value, int-size 7 128 i, index-size 8 0 j, string-size value)
 
 pub insert-text-size : (i : ℕ) (name value : List ℕ)
-    → length (instructionWire (insert i (Name.literal name) value)) ≡ insertTextSize i (length name) (length value)
+    → length (instructionWire (insert i (Name.literal name) value)) ≡ insertTextSize i (wireSize name) (wireSize value)
 unfolding insertTextSize
 insert-text-size i name value =
     omega (arith, insert-length i i refl (Name.literal name) value, int-size 7 128 i, text-size 8 0 name (omega arith), string-size value)
@@ -91,13 +91,13 @@ pub indexed-size : (i : ℕ) → length (representationWire (indexed i)) ≡ int
 indexed-size i = ap length (indexed-wire i) ∙ int-size 7 128 i
 
 pub literal-index-size : (flag j : ℕ) (value : List ℕ)
-    → length (representationWire (literal flag (Name.indexed j) value)) ≡ literalIndexSize j (length value)
+    → length (representationWire (literal flag (Name.indexed j) value)) ≡ literalIndexSize j (wireSize value)
 unfolding literalIndexSize
 literal-index-size flag j value =
     omega (arith, literal-length flag (Name.indexed j) value, index-size 6 (flag * 64) j, string-size value)
 
 pub literal-text-size : (flag : ℕ) (name value : List ℕ)
-    → length (representationWire (literal flag (Name.literal name) value)) ≡ literalTextSize (length name) (length value)
+    → length (representationWire (literal flag (Name.literal name) value)) ≡ literalTextSize (wireSize name) (wireSize value)
 unfolding literalTextSize
 literal-text-size flag name value =
     omega (arith, literal-length flag (Name.literal name) value, text-size 6 (flag * 64) name (omega arith), string-size value)

@@ -11,7 +11,7 @@ groupsSize v = pick (ltb v 128) 1 (pick (ltb v 16384) 2 (pick (ltb v 2097152) 3 
 unfoldable pub intSize : ℕ → ℕ → ℕ
 intSize k v = pick (ltb v (2 ^ k - 1)) 1 (1 + groupsSize (v - (2 ^ k - 1)))
 
--- a string of n bytes
+-- a string that takes n bytes behind its length, plain or packed (wire's `wireSize`)
 unfoldable pub stringSize : ℕ → ℕ
 stringSize n = intSize 7 n + n
 

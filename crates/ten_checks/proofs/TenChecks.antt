@@ -11,7 +11,9 @@ use Rattle.memory.specs.Bytes.{Small}
 use Rattle.memory.proofs.Order.{need-true}
 use Rattle.integers.specs.Answers.{Answer, done, no-room}
 use Rattle.integers.specs.Integer.{readInt, groups, intWire, groupWire}
-use Rattle.wire.specs.Text.{stringBytes, stringAfter, readString, stringWire}
+use Rattle.huffman.specs.Codes.{codes, codeOf}
+use Rattle.huffman.specs.Packing.{codesSize, packedSize}
+use Rattle.wire.specs.Text.{textAt, stringBytes, stringAfter, stringEnd, readString, allBytes, packs, stringWire}
 use Rattle.wire.specs.Name.{readName, nameWire}
 use Rattle.wire.specs.StreamList.{readDelta, readDeltas, streamsFrom, readList, listed, names}
 use Rattle.statics.specs.Table.{entries, entryAt}
@@ -111,7 +113,7 @@ module _ (m : List ℕ) (small : Small m) (ok : startCall m 4096 .answer .number
 
   agreed : Agree (checks m)
   unfolding readInt groups intWire groupWire
-      stringBytes stringAfter readString stringWire readName nameWire readDelta readDeltas streamsFrom readList listed names
+      codes codeOf codesSize packedSize textAt stringBytes stringAfter stringEnd readString allBytes packs stringWire readName nameWire readDelta readDeltas streamsFrom readList listed names
       entries entryAt textForm fieldForm listForm instructionWire readIndex readInsert readDelete readForDecoder
       readIndexed readLiteral readRepresentation blockFrom readBlock isStatic withStatics fieldMeaning blockMeaning
       size look put total partOf mark inTurn namesPart isOpen openBelow lowestOpen outputBytes

@@ -97,7 +97,9 @@ fn write(width: u32, top: u32, value: u32)
     bytes(&out[..end]);
 }
 
-fn string_read(s: &[u8], limit: usize) {
+fn string_read(s: &[u8], limit: usize)
+    requires { ⌜ limit ≤ 2047 ⌝ }
+{
     let r = read_string(s, 0, limit);
     let StringRead::Found(place, after) = r else {
         refusal(r.number());

@@ -4,6 +4,7 @@ pub mod TextWriting
 pub mod TextBounds
 pub mod TextBack
 pub mod TextKept
+pub mod TextVectors
 pub mod ListLaws
 pub mod ListBounds
 pub mod ListWriting

@@ -1,14 +1,19 @@
 -- Reading gives back the strings and names that were written, and a name's first byte keeps the bits above its prefix.
 -- By `int-back` at the length or the index, and the place of the bytes after it.
-use mathlib.Core.Path.{_≡_, refl, ap, _∙_}
+use mathlib.Core.Path.{_≡_, refl, sym, ap, subst, _∙_}
+use mathlib.Core.Bool.{true, false}
 use Prim.Native.Nat.{ℕ, _+_, _*_, _^_, _≤_, _<_}
 use native.Mathlib.Omega.{arith}
-use mathlib.Core.List.{List}
-use lib.ListN.{length, getD}
-use Rattle.memory.specs.Bytes.{Has}
+use mathlib.Core.List.{List, _++_}
+use lib.ListN.{length, getD, length-append}
+use Rattle.memory.specs.Bytes.{Has, part}
+use Rattle.memory.proofs.Order.{either}
 use Rattle.memory.proofs.Places.{has-left, has-right, has-end, has-part}
 use Rattle.integers.specs.Integer.{intWire}
-use Rattle.wire.specs.Text.{readString, stringWire, stringLength, stringBytes}
+use Rattle.huffman.specs.Packing.{Unpacked, whole, unpack, pack, packedSize}
+use Rattle.huffman.proofs.Packs.{packed-length}
+use Rattle.huffman.proofs.RoundTrip.{pack-unpack}
+use Rattle.wire.specs.Text.{plainPlace, textAt, stringEnd, packs, readString, stringWire, stringLength, stringBytes}
 use Rattle.wire.specs.Name.{Name, FineName, nameOf, readName, nameWire}
 use Rattle.wire.specs.declared.text.StringPlace.{StringPlace}
 use Rattle.wire.specs.declared.text.StringRead.the-variants.{Found}
@@ -17,29 +22,65 @@ use Rattle.wire.specs.declared.name.NamePlace.the-variants.{Index, Text}
 use Rattle.wire.specs.declared.name.NameRead.the-variants.{Found as NameFound}
 use Rattle.integers.proofs.Back.{int-back}
 use Rattle.integers.proofs.Lengths.{first-byte}
-use Rattle.wire.proofs.Strings.{string-value, after-found, name-index, name-text}
-use Rattle.wire.proofs.TextWriting.{string-length-wire, literal-length-wire}
+use Rattle.wire.proofs.Strings.{string-plain, string-packed, after-end, end-found, plain-found, name-index, name-text}
+use Rattle.wire.proofs.TextWriting.{plain-wire, packed-wire, packs-shorter, packs-bytes, literal-length-wire}
 
 -- where the bytes of a string stand, a place with that string is read
-pub string-back : (s : List ℕ) (at limit : ℕ) (xs : List ℕ) → length xs ≤ limit → length xs ≤ 2047 → Has s at (stringWire xs)
-    → (p : StringPlace) × (readString s at limit ≡ Found p (at + length (stringWire xs))) × (stringBytes s p ≡ xs) × (stringLength s p ≡ length xs)
-unfolding stringWire stringBytes stringLength
-string-back s at limit xs h k p =
-    let n = length xs in
-    let bytes = intWire 7 0 n in
-    let q : Has s at bytes = has-left s at bytes xs p in
-    let low = first-byte s 7 at 0 n q in
-    let start : ℕ = at + length bytes in
-    let rest : Has s start xs = has-right s at bytes xs p in
-    let first = has-end s at bytes (omega (arith, low .0)) q in
-    let fits : start + n ≤ length s = has-end s start xs (omega arith) rest in (
-      record { start = start; size = n },
-      string-value s at limit (low .0) (low .2) _ refl (record { value = n }) start (int-back s 7 at 0 n (omega arith) q)
-          ∙ after-found s limit n start h (omega arith)
-          ∙ ap (Found (record { start = start; size = n })) (omega (arith, string-length-wire xs)),
-      has-part s start xs rest,
-      refl,
-    )
+module _ (s : List ℕ) (at limit : ℕ) (xs : List ℕ) (h : length xs ≤ limit) (k : length xs ≤ 2047) where
+  abbrev Back : List ℕ → Type 0
+  Back bytes = (p : StringPlace) × (readString s at limit ≡ Found p (at + length bytes)) × (stringBytes s p ≡ xs) × (stringLength s p ≡ length xs)
+
+  plain-back : Has s at (intWire 7 0 (length xs) ++ xs) → Back (intWire 7 0 (length xs) ++ xs)
+  unfolding stringBytes stringLength textAt
+  plain-back p =
+      let n = length xs in
+      let bytes = intWire 7 0 n in
+      let q : Has s at bytes = has-left s at bytes xs p in
+      let low = first-byte s 7 at 0 n q in
+      let start : ℕ = at + length bytes in
+      let rest : Has s start xs = has-right s at bytes xs p in
+      let first = has-end s at bytes (omega (arith, low .0)) q in
+      let fits : start + n ≤ length s = has-end s start xs (omega arith) rest in (
+        plainPlace start n,
+        string-plain s at limit (low .0) _ refl (record { value = n }) start (int-back s 7 at 0 n (omega arith) q) (omega (arith, low .2))
+            ∙ plain-found s limit n start h (omega arith)
+            ∙ ap (Found (plainPlace start n)) (omega (arith, length-append bytes xs)),
+        has-part s start xs rest,
+        refl,
+      )
+
+  packed-back : packs xs ≡ true → Has s at (intWire 7 128 (packedSize xs) ++ pack xs) → Back (intWire 7 128 (packedSize xs) ++ pack xs)
+  unfolding stringBytes stringLength textAt
+  packed-back e p =
+      let n = packedSize xs in
+      let few = packs-shorter xs e in
+      let bytes = intWire 7 128 n in
+      let q : Has s at bytes = has-left s at bytes (pack xs) p in
+      let low = first-byte s 7 at 128 n q in
+      let start : ℕ = at + length bytes in
+      let rest : Has s start (pack xs) = has-right s at bytes (pack xs) p in
+      let l = packed-length xs in
+      let first = has-end s at bytes (omega (arith, low .0)) q in
+      let fits : start + n ≤ length s = omega (arith, has-end s start (pack xs) (omega arith) rest, l) in
+      let there : part s start n ≡ pack xs = ap (part s start) (sym l) ∙ has-part s start (pack xs) rest in
+      let text : textAt true s start n ≡ whole xs = ap unpack there ∙ pack-unpack xs (packs-bytes xs e) in
+      let u : Unpacked = textAt true s start n in (
+        record { start = start; size = n; packed = true; length = length xs },
+        string-packed s at limit (low .0) _ refl (record { value = n }) start (int-back s 7 at 1 n (omega (arith, few)) q) (low .1)
+            ∙ after-end true s limit n start (omega (arith, few)) (omega (arith, fits))
+            ∙ ap (stringEnd true limit n start) text
+            ∙ end-found true limit n start (whole xs) h refl
+            ∙ ap (Found (record { start = start; size = n; packed = true; length = length xs })) (omega (arith, length-append bytes (pack xs), l)),
+        ap (λ (u : Unpacked). u .bytes) text,
+        refl,
+      )
+
+  pub string-back : Has s at (stringWire xs)
+      → (p : StringPlace) × (readString s at limit ≡ Found p (at + length (stringWire xs))) × (stringBytes s p ≡ xs) × (stringLength s p ≡ length xs)
+  string-back p =
+      either (packs xs)
+      (λ e. subst Back (sym (packed-wire xs e)) (packed-back e (subst (Has s at) (packed-wire xs e) p)))
+      (λ e. subst Back (sym (plain-wire xs e)) (plain-back (subst (Has s at) (plain-wire xs e) p)))
 
 -- where the bytes of a name stand, a place with that name is read
 pub name-back : (s : List ℕ) (k at t : ℕ) (n : Name) → FineName n → Has s at (nameWire k (t * 2 ^ k) n)

@@ -1,14 +1,16 @@
--- Which numbers strings and names (2, 3, 4, 13) and stream lists (2, 3, 14) are refused by. What follows one is refused by these and by its own.
+-- Which numbers strings and names (2, 3, 13, 18) and stream lists (2, 3, 14) are refused by. What follows one is refused by these and by its own.
 -- Along the definitions, as for integers.
+use mathlib.Core.Bool.{Bool}
 use Prim.Native.Nat.{ℕ, zero, suc, _+_, _-_}
 use mathlib.Core.List.{List, [], _∷_}
-use lib.ListN.{length, getD}
+use lib.ListN.{length}
 use lib.Dec.{ltb, leb, eqb}
 use Rattle.memory.proofs.Order.{pick-both, need-both}
-use Rattle.integers.specs.Answers.{truncated, too-large, packed, too-long, bad-stream-list}
+use Rattle.integers.specs.Answers.{truncated, too-large, too-long, bad-stream-list, bad-packing}
 use Rattle.integers.specs.Integer.{readInt}
 use Rattle.integers.proofs.Told.{Told, One, wider, intRefusals, int-told, told-on-int}
-use Rattle.wire.specs.Text.{onString, readString, stringAfter}
+use Rattle.huffman.specs.Packing.{Unpacked}
+use Rattle.wire.specs.Text.{onString, textAt, sizeLimit, isPacked, readString, stringAfter, stringEnd}
 use Rattle.wire.specs.Name.{onName, readName}
 use Rattle.wire.specs.StreamList.{onDelta, onDeltas, onList, readDelta, readDeltas, readList}
 use Rattle.wire.specs.declared.text.StringPlace.{StringPlace}
@@ -26,7 +28,7 @@ use Rattle.wire.specs.declared.stream_list.ListRead.{ListRead}
 use Rattle.wire.specs.declared.stream_list.ListRead.the-variants.{Found as ListFound, Refused as ListRefused}
 
 abbrev pub textRefusals : List ℕ
-textRefusals = truncated ∷ too-large ∷ packed ∷ too-long ∷ []
+textRefusals = truncated ∷ too-large ∷ too-long ∷ bad-packing ∷ []
 
 abbrev pub listRefusals : List ℕ
 listRefusals = truncated ∷ too-large ∷ bad-stream-list ∷ []
@@ -79,18 +81,24 @@ module _ {X : Type 0} (Fine : X → Type 0) (refused : ℕ → X) (h : (m : ℕ)
   told-on-list (ListRefused m) k g = record { told = h m (k .told) }
 
 module _ (s : List ℕ) (at : ℕ) where
-  after-told : (limit size start : ℕ) → Told StringTold (stringAfter s limit size start)
+  end-told : (packed : Bool) (limit size start : ℕ) (u : Unpacked) → Told StringTold (stringEnd packed limit size start u)
+  unfolding stringEnd
+  end-told packed limit size start u =
+      need-both (Told StringTold) (leb (length (u .bytes)) limit) (Refused 13) _ (λ e. record { told = tt })
+      (λ e. need-both (Told StringTold) (u .whole) (Refused 18) _ (λ d. record { told = tt }) (λ d. record { told = tt }))
+
+  after-told : (packed : Bool) (limit size start : ℕ) → Told StringTold (stringAfter packed s limit size start)
   unfolding stringAfter
-  after-told limit size start =
-      need-both (Told StringTold) (leb size limit) (Refused 13) _ (λ e. record { told = tt })
-      (λ e. need-both (Told StringTold) (leb size (length s - start)) (Refused 2) _ (λ d. record { told = tt }) (λ d. record { told = tt }))
+  after-told packed limit size start =
+      need-both (Told StringTold) (leb size (sizeLimit packed limit)) (Refused 13) _ (λ e. record { told = tt })
+      (λ e. need-both (Told StringTold) (leb size (length s - start)) (Refused 2) _ (λ d. record { told = tt })
+      (λ d. end-told packed limit size start (textAt packed s start size)))
 
   pub string-told : (limit : ℕ) → Told StringTold (readString s at limit)
   unfolding readString
   string-told limit =
       need-both (Told StringTold) (ltb at (length s)) (Refused 2) _ (λ e. record { told = tt })
-      (λ e. need-both (Told StringTold) (ltb (getD s at 0) 128) (Refused 4) _ (λ d. record { told = tt })
-      (λ d. told-on-int StringTold Refused (wider textRefusals intRefusals tt) (readInt 7 s at) (int-told 7 s at) (after-told limit)))
+      (λ e. told-on-int StringTold Refused (wider textRefusals intRefusals tt) (readInt 7 s at) (int-told 7 s at) (after-told (isPacked s at) limit))
 
   pub delta-told : (last : ℕ) → Told DeltaTold (readDelta s at last)
   unfolding readDelta

@@ -1,9 +1,10 @@
--- Short strings: a string exactly where its length takes one byte.
+-- Short strings: a string exactly where it is plain and its length takes one byte.
 use Prim.Native.Nat.{ℕ, _+_, _-_}
 use mathlib.Core.List.{List}
 use lib.ListN.{length, getD}
 use lib.Dec.{ltb, leb}
 use Rattle.memory.specs.Choice.{need}
+use Rattle.wire.specs.Text.{plainPlace}
 use Rattle.wire.specs.declared.text.StringPlace.{StringPlace}
 use Rattle.wire.specs.declared.text.ShortString.{ShortString}
 use Rattle.wire.specs.declared.text.ShortString.the-variants.{Found, Other}
@@ -14,7 +15,7 @@ shortStringAt s at =
     need (ltb at (length s)) Other
     (need (ltb (getD s at 0) 127) Other
     (need (leb (getD s at 0) (length s - (at + 1))) Other
-    (Found (record { start = at + 1; size = getD s at 0 }) (at + 1 + getD s at 0))))
+    (Found (plainPlace (at + 1) (getD s at 0)) (at + 1 + getD s at 0))))
 
 -- what follows a short string and the place after it, or what is said where none stands there
 abbrev pub onShortString {ℓ} : {X : Type ℓ} → X → ShortString → (StringPlace → ℕ → X) → X

@@ -1,32 +1,42 @@
-// Strings on the wire: an H bit, a length with a prefix of seven bits, then that many bytes.
+// Strings on the wire: an H bit, a length with a prefix of seven bits, then that many bytes, which are packed where H is set.
 ghost use mathlib.Core.Path.{_≡_};
+ghost use mathlib.Core.Bool.{true, false};
 ghost use Prim.Native.Nat.{ℕ, _+_, _≤_};
 ghost use lib.ListN.{length};
 ghost use Rattle.memory.specs.Bytes.{overlay};
-ghost use Rattle.wire.specs.Text.{InString, stringAnswer, stringLength, stringBytes, readString, stringWire, valueLimit};
+ghost use Rattle.wire.specs.Text.{InString, stringAnswer, stringLength, stringBytes, plainPlace, readString, stringAfter, wireSize, stringWire, valueLimit};
 ghost use Rattle.wire.specs.Short.{shortStringAt};
 use copying::copy::copy;
+use huffman::pack::pack;
+use huffman::pack::packed_size;
+use integers::answer::BAD_PACKING;
 use integers::answer::DONE;
-use integers::answer::PACKED;
 use integers::answer::TOO_LONG;
 use integers::answer::TRUNCATED;
 use integers::byte::wide;
 use integers::integer::IntRead;
 use integers::integer::WireInt;
+use unpacking::unpack::unpack;
+use unpacking::unpack::unpacked_size;
 
 // The most bytes that a name and a value have.
 pub const NAME_LIMIT: usize = 255;
 
 pub const VALUE_LIMIT: usize = 2_047;
 
+// A byte takes at most this many packed.
+const PACKED_MOST: usize = 4;
+
 // The H bit, in the first byte of a string.
 const H_BIT: u8 = 128;
 
-// Where a string stands: its first byte after the length, and how many bytes it takes there.
+// Where a string stands: its first byte after the length, how many bytes it takes there, whether these are packed, and how many bytes it has.
 // Its length and its bytes are reached through the two methods alone.
 pub struct StringPlace {
     pub start: usize,
     pub size: usize,
+    pub packed: bool,
+    pub length: usize,
 }
 
 // What reading a string finds: its place and the place after it, or the answer's number.
@@ -53,11 +63,23 @@ impl StringRead {
 }
 
 impl StringPlace {
+    // The place of a plain string.
+    fn plain(start: usize, size: usize) -> StringPlace
+        ensures { λ r. ⌜ r ≡ plainPlace start size ⌝ }
+    {
+        StringPlace {
+            start,
+            size,
+            packed: false,
+            length: size,
+        }
+    }
+
     // How many bytes the string has.
     pub fn length(self, s: &[u8]) -> usize
         ensures { λ r. ⌜ r ≡ stringLength (now (s .entry)) self ⌝ }
     {
-        self.size
+        self.length
     }
 
     // Copies the string's bytes into `out` from the place `at` on, and answers the place after them.
@@ -69,38 +91,78 @@ impl StringPlace {
     {
         let start = self.start;
         let end = start + self.size;
+        if self.packed {
+            return unpack(s, start, end, out, at);
+        }
         copy(&s[start..end], out, at)
     }
 }
 
+// A packed string, after its length and the place after it.
+fn read_packed(s: &[u8], limit: usize, size: usize, start: usize) -> StringRead
+    requires { ⌜ (limit ≤ valueLimit) × (start ≤ length (now s)) ⌝ }
+    ensures { λ r. ⌜ r ≡ stringAfter true (now (s .entry)) limit size start ⌝ }
+{
+    if PACKED_MOST * limit < size {
+        return StringRead::Refused(TOO_LONG);
+    }
+    if s.len() - start < size {
+        return StringRead::Refused(TRUNCATED);
+    }
+    let next = start + size;
+    let found = unpacked_size(s, start, next);
+    let length = found.count;
+    if limit < length {
+        return StringRead::Refused(TOO_LONG);
+    }
+    if !found.whole {
+        return StringRead::Refused(BAD_PACKING);
+    }
+    StringRead::Found(
+        StringPlace {
+            start,
+            size,
+            packed: true,
+            length,
+        },
+        next,
+    )
+}
+
+// A plain string, likewise.
+fn read_plain(s: &[u8], limit: usize, size: usize, start: usize) -> StringRead
+    requires { ⌜ start ≤ length (now s) ⌝ }
+    ensures { λ r. ⌜ r ≡ stringAfter false (now (s .entry)) limit size start ⌝ }
+{
+    if limit < size {
+        return StringRead::Refused(TOO_LONG);
+    }
+    if s.len() - start < size {
+        return StringRead::Refused(TRUNCATED);
+    }
+    StringRead::Found(StringPlace::plain(start, size), start + size)
+}
+
 // The string of at most `limit` bytes at the place `at`.
 pub fn read_string(s: &[u8], at: usize, limit: usize) -> StringRead
+    requires { ⌜ limit ≤ valueLimit ⌝ }
     ensures { λ r. ⌜ r ≡ readString (now (s .entry)) at limit ⌝ }
 {
     if s.len() <= at {
         return StringRead::Refused(TRUNCATED);
     }
-    if H_BIT <= s[at] {
-        return StringRead::Refused(PACKED);
-    }
+    let first = s[at];
     let r = WireInt::read(s, at, WireInt::PREFIX7);
     let IntRead::Value(n, start) = r else {
         return StringRead::Refused(r.number());
     };
-    let size = n.value as usize;
-    let left = s.len() - start;
-    if limit < size {
-        return StringRead::Refused(TOO_LONG);
+    if H_BIT <= first {
+        return read_packed(s, limit, n.value as usize, start);
     }
-    if size <= left {
-        let next = start + size;
-        return StringRead::Found(StringPlace { start, size }, next);
-    }
-    StringRead::Refused(TRUNCATED)
+    read_plain(s, limit, n.value as usize, start)
 }
 
-// The string at the place `at`, if its length takes one byte: then H is not set, and it is within every limit. Most are, so whoever reads many
-// looks for these first.
+// The string at the place `at`, if it is plain and its length takes one byte: then it is within every limit. Whoever reads many looks for these first.
 pub fn short_string(s: &[u8], at: usize) -> ShortString
     ensures { λ r. ⌜ r ≡ shortStringAt (now (s .entry)) at ⌝ }
 {
@@ -113,11 +175,24 @@ pub fn short_string(s: &[u8], at: usize) -> ShortString
     }
     let size = length as usize;
     let start = at + 1;
-    if s.len() - start < size {
+    let left = s.len() - start;
+    if left < size {
         return ShortString::Other;
     }
     let next = start + size;
-    ShortString::Found(StringPlace { start, size }, next)
+    ShortString::Found(StringPlace::plain(start, size), next)
+}
+
+// How many bytes a string takes on the wire behind its length: packed exactly where that is strictly shorter.
+pub fn wire_size(src: &[u8]) -> usize
+    requires { ⌜ length (now src) ≤ valueLimit ⌝ }
+    ensures { λ r. ⌜ (r ≡ wireSize (now (src .entry))) × (r ≤ valueLimit) ⌝ }
+{
+    let n = packed_size(src);
+    if n < src.len() {
+        return n;
+    }
+    src.len()
 }
 
 // Writes the string `src` at the place `at`, and answers the place after it.
@@ -127,7 +202,12 @@ pub fn write_string(src: &[u8], out: &mut [u8], at: usize) -> usize
     ensures { λ r. ⌜ r ≡ at + length (stringWire (now (src .entry))) ⌝ }
     ensures { λ _. ⌜ now (out .exit) ≡ overlay (now (out .entry)) at (stringWire (now (src .entry))) ⌝ }
 {
-    let n = WireInt::new(src.len() as u32);
+    let size = wire_size(src);
+    let n = WireInt::new(size as u32);
+    if size < src.len() {
+        let next = n.write(out, at, WireInt::PREFIX7, H_BIT as u32);
+        return pack(src, out, next);
+    }
     let next = n.write(out, at, WireInt::PREFIX7, 0);
     copy(src, out, next)
 }

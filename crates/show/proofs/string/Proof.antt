@@ -3,7 +3,7 @@ use mathlib.Core.Path.{sym}
 use native.Mathlib.Omega.{arith}
 use lib.Seq.{length-take-le}
 use borrow.Author.Needs.{needs}
-use borrow.Author.Tests.{ltb-false}
+use borrow.Author.Tests.{not-false}
 use Rattle.show.proofs.string.Statement.{statement}
 use Rattle.show.proofs.string.Tie as tie
 
@@ -22,8 +22,8 @@ words-requires-2 c κs = search needs
 returns : tie.Need-returns
 returns c = search needs
 
-sub-if3 : tie.Need-sub-if3
-sub-if3 c = search needs
+is-there-requires : tie.Need-is-there-requires
+is-there-requires c κs = search needs
 
 slice-aggregate-words-2 : tie.Need-slice-aggregate-words-2
 slice-aggregate-words-2 c = search needs
@@ -38,7 +38,8 @@ slice-aggregate-copy : tie.Need-slice-aggregate-copy
 slice-aggregate-copy c = search needs
 
 copy-requires : tie.Need-copy-requires
-copy-requires c κs = (omega (arith, ltb-false), omega arith)
+copy-requires c κs =
+    (c .before .before .is-there .ensures (not-false _ (c .before .if2 .left)), omega (arith, c .before .before .before .before .length .ensures, c .before .before .before .if1 .left))
 
 array-share-prefix-text : tie.Need-array-share-prefix-text
 array-share-prefix-text c = search needs
@@ -61,7 +62,7 @@ string-spec =
     slice-aggregate-words
     words-requires-2
     returns
-    sub-if3
+    is-there-requires
     slice-aggregate-words-2
     words-requires-3
     returns-2

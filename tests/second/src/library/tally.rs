@@ -1,15 +1,15 @@
 //! How often each call got each answer, and how full the tables were: a run that reaches little would prove little.
 use crate::program::call::{Call, Outcome, Second};
 
-/// One more than the highest number of document 01's table.
-const ANSWERS: usize = 18;
+/// One more than the highest number of the table of answers.
+const ANSWERS: usize = 19;
 
-/// Every call with the answers that document 01 lets it give and that bytes and arguments can reach. 15 is none of them: a table of
-/// 128 entries is full, so 7 comes first.
+/// Every call with the answers that the papers let it give and that bytes and arguments can reach. 15 is none of them: a table of
+/// 128 entries is full, so 7 comes first. 4 is none either: packed strings are read.
 const REACHABLE: [(&str, &[u8]); 11] = [
     ("decoder start", &[0, 7, 12]),
-    ("decoder read", &[0, 2, 3, 4, 5, 6, 7, 8, 9, 13, 14, 17]),
-    ("decoder block", &[0, 1, 2, 3, 4, 5, 11, 12, 13, 17]),
+    ("decoder read", &[0, 2, 3, 5, 6, 7, 8, 9, 13, 14, 17, 18]),
+    ("decoder block", &[0, 1, 2, 3, 5, 11, 12, 13, 17, 18]),
     ("decoder ended", &[0, 11, 17]),
     ("decoder collect", &[0, 12, 17]),
     ("decoder hold", &[0, 5, 8, 10, 17]),
@@ -74,12 +74,14 @@ impl Tally {
         lines
     }
 
-    /// Answers that no call gave although it can, and the tables that never filled.
+    /// Answers that a call never gave although it can, or gave although it cannot, and the tables that never filled.
     pub fn missed(&self) -> Vec<String> {
         let mut missed = Vec::new();
         for ((name, answers), row) in REACHABLE.iter().zip(&self.counts) {
             let never = answers.iter().filter(|&&answer| row[usize::from(answer)] == 0);
             missed.extend(never.map(|answer| format!("{name} never answered {answer}")));
+            let given = (0u8..).zip(row).filter(|(answer, &count)| count > 0 && !answers.contains(answer));
+            missed.extend(given.map(|(answer, _)| format!("{name} answered {answer}")));
         }
         if self.most != [128, 128] {
             missed.push("128 entries were not held at both ends".to_string());

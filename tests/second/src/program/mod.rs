@@ -1,10 +1,11 @@
-//! The second program: document 01 written from the papers alone, in maps and vectors.
+//! The second program: document 01, with document 02's packed strings, written from the papers alone, in maps and vectors.
 pub mod blocks;
 pub mod call;
 pub mod decoder;
 pub mod encoder;
 pub mod fields;
 pub mod instructions;
+pub mod packing;
 pub mod statics;
 pub mod tables;
 pub mod wire;

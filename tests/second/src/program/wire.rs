@@ -1,4 +1,5 @@
-//! Integers and strings of RFC 7541, 5.1 and 5.2, with document 01's bounds, read by a cursor and written to a vector.
+//! Integers and strings of RFC 7541, 5.1 and 5.2, with the papers' bounds, read by a cursor and written to a vector.
+use super::packing::{packed, unpacked};
 
 /// The largest integer that is read.
 pub const LARGEST: u64 = (1 << 27) - 1;
@@ -7,6 +8,10 @@ const GROUPS: u32 = 4;
 /// The longest name and the longest value, in bytes.
 pub const NAME_MOST: u64 = 255;
 pub const VALUE_MOST: u64 = 2047;
+/// A packed length may be so many times the most bytes of its string.
+pub const PACKED_TIMES: u64 = 4;
+/// The H bit: a string is packed.
+pub const PACKED: u8 = 0x80;
 
 /// A number of document 01's table other than 0, and the number told with it.
 #[derive(Clone, Copy, Debug, PartialEq, Eq)]
@@ -77,15 +82,21 @@ impl<'a> Reader<'a> {
         refuse(3)
     }
 
-    /// A plain string of at most `most` bytes.
+    /// A string of at most `most` bytes, plain or packed; a packed one is judged when it is there whole.
     pub fn string(&mut self, most: u64) -> Answer<Vec<u8>> {
-        refuse_if(self.peek()? & 0x80 != 0, 4)?;
+        let is_packed = self.peek()? & PACKED != 0;
         let length = self.integer(7)?;
-        refuse_if(length > most, 13)?;
+        refuse_if(length > if is_packed { PACKED_TIMES * most } else { most }, 13)?;
         refuse_if(length > self.rest.len() as u64, 2)?;
         let (string, rest) = self.rest.split_at(length as usize);
         self.rest = rest;
-        Ok(string.to_vec())
+        if !is_packed {
+            return Ok(string.to_vec());
+        }
+        let found = unpacked(string);
+        refuse_if(found.text.len() as u64 > most, 13)?;
+        refuse_if(found.fault, 18)?;
+        Ok(found.text)
     }
 }
 
@@ -109,8 +120,13 @@ pub fn put_groups(out: &mut Vec<u8>, mut value: u64) {
     out.push(value as u8);
 }
 
-/// Writes a plain string.
+/// Writes a string, packed where that is shorter.
 pub fn put_string(out: &mut Vec<u8>, string: &[u8]) {
-    put_integer(out, 0, 7, string.len() as u64);
-    out.extend_from_slice(string);
+    let shorter = Some(packed(string)).filter(|packed| packed.len() < string.len());
+    let (pattern, bytes) = match &shorter {
+        Some(packed) => (PACKED, &packed[..]),
+        None => (0, string),
+    };
+    put_integer(out, pattern, 7, bytes.len() as u64);
+    out.extend_from_slice(bytes);
 }

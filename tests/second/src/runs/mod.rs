@@ -7,6 +7,7 @@ mod hostile;
 mod link;
 mod made_up;
 mod noise;
+mod packed;
 mod streams;
 mod wild;
 mod words;

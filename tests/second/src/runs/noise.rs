@@ -35,14 +35,35 @@ fn at_decoder(random: &mut Random, second: &Second) -> Call {
     match random.below(10) {
         0 => Call::DecoderStart { limit: no_limit(random) },
         1 => Call::DecoderRead {
-            bytes: random.pick(&[&[][..], &[0x40], &[0xbe], &[0x3e, 0x05], &[0xbd, 0, 0, 0], &[0xbe, 0, 0x81]]).to_vec(),
+            bytes: random
+                .pick(&[
+                    &[][..],
+                    &[0x40],
+                    &[0xbe],
+                    &[0x3e, 0x05],
+                    &[0xbd, 0, 0, 0],
+                    &[0xbe, 0, 0x81],
+                    &[0xbe, 0, 0x81, 0x18, 0],
+                    &[0xbe, 0, 0, 0x81, 0xff],
+                ])
+                .to_vec(),
         },
         2 => block(no_stream(random), part, vec![0x82]),
         3 => block(stream, *random.pick(&[2, 3, 256, u64::MAX]), vec![0x82]),
         4 => block(
             stream,
             part,
-            random.pick(&[&[0x80][..], &[0x01], &[0x00, 0x81], &[0x00, 0x01], &[0xff, 0xff, 0xff, 0xff, 0xff]]).to_vec(),
+            random
+                .pick(&[
+                    &[0x80][..],
+                    &[0x01],
+                    &[0x00, 0x81],
+                    &[0x00, 0x01],
+                    &[0xff, 0xff, 0xff, 0xff, 0xff],
+                    &[0x01, 0x82, 0x1f, 0xff],
+                    &[0x01, 0x84, 0xff, 0xff, 0xff, 0xff],
+                ])
+                .to_vec(),
         ),
         5 => block(stream, part, vec![0x82]).with_room(random.below(13) as usize),
         6 if random.percent(10) => block(stream, part, vec![0x82; 16_385]),

@@ -1,8 +1,10 @@
 //! Bytes as a faulty or hostile peer sends them: near to right ones, so that every rule is reached, then mutated.
+use super::packed;
 use super::words::{Style, Words};
 use crate::program::call::Second;
+use crate::program::fields::{list_of, Field};
 use crate::program::instructions::STREAMS;
-use crate::program::wire::LARGEST;
+use crate::program::wire::{LARGEST, NAME_MOST, PACKED, VALUE_MOST};
 use crate::random::Random;
 use crate::recording::BYTES_MOST;
 
@@ -50,22 +52,26 @@ fn put_integer(random: &mut Random, out: &mut Vec<u8>, pattern: u8, width: u32, 
     out.extend(groups.iter().enumerate().map(|(place, group)| if place < last { group | 0x80 } else { *group }));
 }
 
-/// A string, now and then with H set or with a length that is not its own.
-fn put_string(random: &mut Random, out: &mut Vec<u8>, text: &[u8]) {
-    let packed = if random.percent(2) { 0x80 } else { 0 };
-    let length = match random.below(60) {
-        0 => *random.pick(&[255, 256, 2047, 2048, 2049, LARGEST]),
-        1 => text.len() as u64 + 1,
-        _ => text.len() as u64,
+/// A string of which `most` bytes are allowed, plain or packed, now and then with H set over plain bytes or a length that is not its own.
+fn put_string(random: &mut Random, out: &mut Vec<u8>, text: &[u8], most: u64) {
+    let (pattern, bytes) = match random.below(50) {
+        0 => (PACKED, text.to_vec()),
+        1..=15 => (PACKED, packed::string(random, text, most)),
+        _ => (0, text.to_vec()),
     };
-    put_integer(random, out, packed, 7, length);
-    out.extend_from_slice(text);
+    let length = match random.below(60) {
+        0 => *random.pick(&[255, 256, 1020, 1021, 2047, 2048, 2049, 8188, 8189, LARGEST]),
+        1 => bytes.len() as u64 + 1,
+        _ => bytes.len() as u64,
+    };
+    put_integer(random, out, pattern, 7, length);
+    out.extend_from_slice(&bytes);
 }
 
 fn put_name(random: &mut Random, out: &mut Vec<u8>, pattern: u8, width: u32, held: &[u64], name: &[u8]) {
     if random.percent(50) {
         put_integer(random, out, pattern, width, 0);
-        put_string(random, out, name);
+        put_string(random, out, name, NAME_MOST);
     } else {
         let index = index(random, held);
         put_integer(random, out, pattern, width, index);
@@ -104,7 +110,7 @@ pub fn instruction(random: &mut Random, held: &[u64], words: &Words) -> Vec<u8> 
         put_integer(random, &mut out, 0x80, 7, new);
         let field = words.field(random);
         put_name(random, &mut out, 0, 8, held, &field.name);
-        put_string(random, &mut out, &field.value);
+        put_string(random, &mut out, &field.value, VALUE_MOST);
     } else if kind < 98 {
         let index = index(random, held);
         put_integer(random, &mut out, 0, 6, index);
@@ -141,15 +147,27 @@ pub fn block(random: &mut Random, held: &[u64], words: &Words) -> Vec<u8> {
             let field = words.field(random);
             let never = if field.never { 0x40 } else { 0 };
             put_name(random, &mut out, never, 6, held, &field.name);
-            put_string(random, &mut out, &field.value);
+            put_string(random, &mut out, &field.value, VALUE_MOST);
         }
     }
     out.truncate(BYTES_MOST);
     out
 }
 
+/// A field list whose block has 16,383, 16,384 or 16,385 bytes, since nine of its values are packed: 1,797 bytes for each of their
+/// fields, and four more than its value for the last.
+fn longest_list(random: &mut Random) -> Vec<u8> {
+    let field = |value: Vec<u8>| Field { never: true, name: Vec::new(), value };
+    let mut fields = vec![field(vec![b'v'; 2047]); 9];
+    fields.push(field(vec![b'X'; random.between(206, 208) as usize]));
+    list_of(&fields)
+}
+
 /// A field list for the encoder, with lengths that may be padded, too large or not their own.
 pub fn list(random: &mut Random, words: &Words) -> Vec<u8> {
+    if words.style() == Style::Long && random.percent(1) {
+        return longest_list(random);
+    }
     let mut out = Vec::new();
     let fields = match random.below(200) {
         0 => random.between(1_000, 6_000),

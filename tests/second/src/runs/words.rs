@@ -1,4 +1,5 @@
 //! Names and values for the runs: machine reports, static names, and texts at the edges of what is allowed.
+use super::packed::WIDTHS;
 use crate::program::fields::{list_of, Field};
 use crate::program::statics;
 use crate::random::Random;
@@ -61,7 +62,7 @@ impl Words {
             Style::Tiny => vec![b'a'; random.below(2) as usize],
             Style::Long => {
                 let length = *random.pick(&NAME_LENGTHS) as usize;
-                random.bytes(length)
+                long(random, length)
             }
             Style::Near => {
                 let name = random.pick(&statics::ENTRIES).0;
@@ -77,7 +78,7 @@ impl Words {
             Style::Tiny => random.below(10).to_string().into_bytes(),
             Style::Long => {
                 let length = *random.pick(&VALUE_LENGTHS) as usize;
-                random.bytes(length)
+                long(random, length)
             }
             Style::Near => {
                 let value = random.pick(&statics::ENTRIES).1;
@@ -124,6 +125,15 @@ impl Words {
     }
 }
 
+/// A text of this length: any bytes, which are longer packed; letters, which are shorter; or one byte throughout.
+fn long(random: &mut Random, length: usize) -> Vec<u8> {
+    match random.below(4) {
+        0 => vec![*random.pick(WIDTHS); length],
+        1 => (0..length).map(|_| random.between(u64::from(b'a'), u64::from(b'z')) as u8).collect(),
+        _ => random.bytes(length),
+    }
+}
+
 /// A text that is the same, or differs in one byte, or is one byte shorter or longer, or is some other of up to 40 bytes.
 fn near(random: &mut Random, text: &[u8]) -> Vec<u8> {
     let mut text = text.to_vec();
@@ -134,7 +144,7 @@ fn near(random: &mut Random, text: &[u8]) -> Vec<u8> {
         2 => text.push(random.next() as u8),
         3 => {
             let most = *random.pick(&[1, 10, 40]);
-            text = vec![b'k'; random.below(most) as usize];
+            text = vec![*random.pick(b"kX"); random.below(most) as usize];
         }
         _ => (),
     }

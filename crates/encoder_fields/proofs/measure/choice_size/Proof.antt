@@ -3,7 +3,6 @@ use denote.Ref.{now}
 use mathlib.Core.Path.{sym, ap, ap₂, _∙_}
 use native.Mathlib.Omega.{arith}
 use lib.ListN.{length}
-use Rattle.memory.proofs.Places.{length-part}
 use Rattle.fields.specs.Reading.{textOf, fieldOf}
 use Rattle.blocks.specs.Representation.{representationWire}
 use Rattle.sizes.specs.Sizes.{literalIndexSize, literalTextSize}
@@ -23,11 +22,20 @@ indexed-size-requires c κs = search needs
 enum-known-choice-2 : tie.Need-enum-known-choice-2
 enum-known-choice-2 c = search needs
 
+text-size-requires : tie.Need-text-size-requires
+text-size-requires c κs = search needs
+
 literal-index-size-requires : tie.Need-literal-index-size-requires
 literal-index-size-requires c κs = search needs
 
 enum-told : tie.Need-enum-told
 enum-told c = search needs
+
+text-size-requires-2 : tie.Need-text-size-requires-2
+text-size-requires-2 c κs = search needs
+
+text-size-requires-3 : tie.Need-text-size-requires-3
+text-size-requires-3 c κs = search needs
 
 literal-text-size-requires : tie.Need-literal-text-size-requires
 literal-text-size-requires c κs = search needs
@@ -43,25 +51,22 @@ returns c =
 
 returns-2 : tie.Need-returns-2
 returns-2 c =
-    let start = c .before .before .before .before .before .before .before in
+    let start = c .before .before .before .before .before .before .before .before in
     let a = start .args in
-    let r = c .literal-index-size .ensures in
-    let n = length-part (now (a .s)) (a .f .value .start) (a .f .value .length) (start .pre .value) in (
-      r .0 ∙ ap (literalIndexSize _) (sym n)
-          ∙ sym (ap (λ (t : Choice). length (representationWire (chosen (fieldOf (now (a .s)) (a .f)) t))) (c .before .before .choice2 .given .1)
+    let r = c .literal-index-size .ensures in (
+      r .0 ∙ ap (literalIndexSize _) (c .before .text-size .ensures .0)
+          ∙ sym (ap (λ (t : Choice). length (representationWire (chosen (fieldOf (now (a .s)) (a .f)) t))) (c .before .before .before .choice2 .given .1)
           ∙ literal-index-size _ _ (textOf (now (a .s)) (a .f .value))),
       omega (arith, r .1),
     )
 
 returns-3 : tie.Need-returns-3
 returns-3 c =
-    let start = c .before .before .before .before .before .before in
+    let start = c .before .before .before .before .before .before .before .before in
     let a = start .args in
-    let r = c .literal-text-size .ensures in
-    let k = length-part (now (a .s)) (a .f .name .start) (a .f .name .length) (start .pre .name) in
-    let n = length-part (now (a .s)) (a .f .value .start) (a .f .value .length) (start .pre .value) in (
-      r .0 ∙ ap₂ literalTextSize (sym k) (sym n)
-          ∙ sym (ap (λ (t : Choice). length (representationWire (chosen (fieldOf (now (a .s)) (a .f)) t))) (c .before .enum-told .given .1)
+    let r = c .literal-text-size .ensures in (
+      r .0 ∙ ap₂ literalTextSize (c .before .before .text-size2 .ensures .0) (c .before .text-size3 .ensures .0)
+          ∙ sym (ap (λ (t : Choice). length (representationWire (chosen (fieldOf (now (a .s)) (a .f)) t))) (c .before .before .before .enum-told .given .1)
           ∙ literal-text-size _ (textOf (now (a .s)) (a .f .name)) (textOf (now (a .s)) (a .f .value))),
       omega (arith, r .1),
     )
@@ -73,8 +78,11 @@ choice-size-spec =
     enum-known-choice
     indexed-size-requires
     enum-known-choice-2
+    text-size-requires
     literal-index-size-requires
     enum-told
+    text-size-requires-2
+    text-size-requires-3
     literal-text-size-requires
     returns
     returns-2

@@ -1,5 +1,8 @@
 -- `text::short_string` gives what `shortStringAt` says: one equation of it for each way through the function.
-use mathlib.Core.Path.{sym}
+use mathlib.Core.Path.{sym, ap, _∙_}
+use Prim.Native.Nat.{_+_}
+use Rattle.wire.specs.declared.text.StringPlace.{StringPlace}
+use Rattle.wire.specs.declared.text.ShortString.the-variants.{Found}
 use Rattle.wire.proofs.ShortStrings.{short-string-none, short-string-long, short-string-cut, short-string-found}
 use borrow.Author.Needs.{needs}
 use Rattle.wire.proofs.text.short_string.Statement.{statement}
@@ -23,8 +26,8 @@ cast-size c = search needs
 add-start : tie.Need-add-start
 add-start c = search needs
 
-sub-if3 : tie.Need-sub-if3
-sub-if3 c = search needs
+sub-left : tie.Need-sub-left
+sub-left c = search needs
 
 returns-3 : tie.Need-returns-3
 returns-3 c = sym (short-string-cut _ _ (c .before .before .before .before .if1 .left) _ (c .before .before .wide .ensures .0) (c .before .if2 .left) (c .if3 .taken))
@@ -32,8 +35,15 @@ returns-3 c = sym (short-string-cut _ _ (c .before .before .before .before .if1 
 add-next : tie.Need-add-next
 add-next c = search needs
 
+plain-requires : tie.Need-plain-requires
+plain-requires c κs = search needs
+
 returns-4 : tie.Need-returns-4
-returns-4 c = sym (short-string-found _ _ (c .before .before .before .before .if1 .left) _ (c .before .before .wide .ensures .0) (c .before .if2 .left) (c .if3 .left))
+returns-4 c =
+    let d = c .before .before .before in
+    let a = d .before .before .before .before .args in
+    ap (λ (p : StringPlace). Found p (a .at + 1 + d .wide .result)) (c .plain .ensures)
+    ∙ sym (short-string-found _ _ (d .before .before .if1 .left) _ (d .wide .ensures .0) (c .before .before .if2 .left) (c .before .if3 .left))
 
 pub short-string-spec : {M : Type 1} → statement M
 short-string-spec =
@@ -45,7 +55,8 @@ short-string-spec =
     returns-2
     cast-size
     add-start
-    sub-if3
+    sub-left
     returns-3
     add-next
+    plain-requires
     returns-4)

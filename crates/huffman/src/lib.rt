@@ -1,0 +1,4 @@
+// The code of RFC 7541, Appendix B, and strings packed by it.
+pub mod bits;
+pub mod code;
+pub mod pack;

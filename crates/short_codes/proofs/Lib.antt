@@ -1,0 +1,2 @@
+-- The laws of the short codes.
+pub mod Fronts

@@ -1,0 +1,2 @@
+-- The short codes by the bits that they begin.
+pub mod Short

@@ -1,0 +1,2 @@
+-- When a string is there.
+pub mod There
