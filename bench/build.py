@@ -82,7 +82,7 @@ def compile_lshpack(folder):
 
 def build_driver(library):
     """Compiles the common driver with all peers that were found."""
-    sources = ["driver.c", "work.c", "messages.c", "lists.c", "plain.c", "kolowrotan.c"]
+    sources = ["driver.c", "work.c", "messages.c", "lists.c", "huffman.c", "writer.c", "draft.c", "kolowrotan.c"]
     flags, objects = [], []
     for name in ["nghttp2", "nghttp3"]:
         if debian_peer(name):
@@ -104,7 +104,7 @@ def build_driver(library):
 def build_calls(library):
     """Compiles the program that measures single calls of the library."""
     program = os.path.join(OUT, "calls")
-    paths = [os.path.join(BENCH, source) for source in ["calls.c", "given.c", "lists.c"]]
+    paths = [os.path.join(BENCH, source) for source in ["calls.c", "given.c", "huffman.c", "lists.c"]]
     run(["cc", *DIALECT, *OPTIMIZED, "-Iinclude", "-o", program, *paths, library])
     return program
 

@@ -7,7 +7,8 @@
  * DELETES of them are under deletion. At the decoder both lists of a delete have this HORIZON and LISTED streams beside. Every
  * part below the horizon is finished but the last stream's trailer, which is the longest to look for; with READY 1 that one too.
  *
- * Before each call the memory is restored. CALL none-decoder or none-encoder only restores, and is what has to be taken off.
+ * Before each call the memory is restored. CALL none-decoder or none-encoder only restores, and is what has to be taken off. The
+ * status is 2 where the library refuses packed strings.
  */
 #include "kolowrotan.h"
 #include "given.h"
@@ -16,6 +17,7 @@
 #include <stdlib.h>
 #include <string.h>
 
+enum { H_SET = 4, REFUSED = 2 }; /* what a library before packed strings answers to them, and the status then */
 enum { MACHINE_ENTRIES = 80, LAST_STREAM = 4095, NO_STREAM = 5000, NEW_UNIT = 3000, ROOM = 1 << 16 };
 
 static uint8_t encoder[KOLOWROTAN_ENCODER_LENGTH], decoder[KOLOWROTAN_DECODER_LENGTH];
@@ -26,7 +28,7 @@ static uint64_t expect(uint64_t result, int answer, const char *call)
 {
     if (KOLOWROTAN_ANSWER(result) != answer) {
         fprintf(stderr, "%s answered %d\n", call, KOLOWROTAN_ANSWER(result));
-        exit(1);
+        exit(KOLOWROTAN_ANSWER(result) == H_SET ? REFUSED : 1);
     }
     return KOLOWROTAN_FIRST(result);
 }
@@ -149,7 +151,7 @@ static uint64_t encoder_insert(void)
     return kolowrotan_encoder_insert(encoder, sizeof encoder, name.at, name.length, value.at, value.length, output, ROOM);
 }
 
-enum needs { NOTHING, INDEXES, LITERALS, OLD_LIST, NEW_LIST, INSERT, DELETE, ACKNOWLEDGEMENT, FIRST, LAST };
+enum needs { NOTHING, INDEXES, LITERALS, PACKED, OLD_LIST, NEW_LIST, RAW_LIST, INSERT, DELETE, ACKNOWLEDGEMENT, FIRST, LAST };
 
 static const struct call {
     const char *name;
@@ -161,6 +163,7 @@ static const struct call {
     {"decoder-test", decoder_test, INDEXES, KOLOWROTAN_OUT_OF_TURN},
     {"decoder-warm", decoder_block, INDEXES, 0},
     {"decoder-literal", decoder_block, LITERALS, 0},
+    {"decoder-packed", decoder_block, PACKED, 0},
     {"decoder-insert", decoder_read, INSERT, 0},
     {"decoder-delete", decoder_read, DELETE, 0},
     {"decoder-ended", decoder_ended, NOTHING, 0},
@@ -170,6 +173,7 @@ static const struct call {
     {"encoder-test", encoder_test, OLD_LIST, KOLOWROTAN_OUT_OF_TURN},
     {"encoder-warm", encoder_block, OLD_LIST, 0},
     {"encoder-literal", encoder_block, NEW_LIST, 0},
+    {"encoder-raw", encoder_block, RAW_LIST, 0},
     {"encoder-insert", encoder_insert, INSERT, 0},
     {"encoder-delete", encoder_delete, FIRST, 0},
     {"encoder-acknowledge", encoder_acknowledge, ACKNOWLEDGEMENT, 0},
@@ -180,15 +184,17 @@ static void prepare(const struct place *place, enum needs needs)
 {
     enum kind held = place->entries > MACHINE_ENTRIES ? EMPTY : MACHINE;
     struct list old = list_make(held, false, FIELDS, 0), other = list_make(OTHER, false, FIELDS, NEW_UNIT),
-                new = list_make(held, false, FIELDS, NEW_UNIT);
+                raw = list_make(OTHER, true, FIELDS, NEW_UNIT), new = list_make(held, false, FIELDS, NEW_UNIT);
     size_t last = FIRST_INDEX + place->entries - 1;
     given_index = needs == LAST ? last : FIRST_INDEX;
     name = new.fields[0].name;
     value = new.fields[0].value;
-    if (needs == INDEXES || needs == LITERALS)
-        make_block(&given, needs == LITERALS ? &other : NULL);
-    if (needs == OLD_LIST || needs == NEW_LIST)
-        make_list(&given, needs == OLD_LIST ? &old : &other);
+    if (needs == INDEXES)
+        make_indexes(&given);
+    if (needs == LITERALS || needs == PACKED)
+        make_literals(&given, &other, needs == PACKED);
+    if (needs == OLD_LIST || needs == NEW_LIST || needs == RAW_LIST)
+        make_list(&given, needs == OLD_LIST ? &old : needs == RAW_LIST ? &raw : &other);
     if (needs == DELETE)
         make_delete(&given, place, FIRST_INDEX);
     if (needs == ACKNOWLEDGEMENT)

@@ -5,9 +5,11 @@
  *       prints each implementation that was built in, with its version
  *   driver count NAME KIND MODE SIDE ENTRIES FIELDS ROUNDS RUN
  *       records and checks ROUNDS rounds, then runs the first RUN of them: to be run under callgrind with two values of RUN, so
- *       that all else cancels; prints the bytes of a round
+ *       that all else cancels; prints the bytes of a round, and of its strings before they are packed
  *   driver time KIND MODE SIDE ENTRIES FIELDS ROUNDS PASSES
  *       runs all implementations in turn, PASSES times, and prints nanoseconds per field
+ *
+ * The status is 2 where an implementation refuses packed strings.
  */
 #include "work.h"
 
@@ -41,6 +43,12 @@ _Noreturn void fail(const char *format, ...)
     exit(1);
 }
 
+_Noreturn void refuse(const char *what)
+{
+    fprintf(stderr, "%s\n", what);
+    exit(REFUSED);
+}
+
 void sink_check(struct sink *sink, const uint8_t *name, size_t name_length, const uint8_t *value, size_t value_length)
 {
     if (sink->next >= sink->expected->count)
@@ -64,14 +72,15 @@ static size_t choice(const char *word, const char *const words[], size_t count)
 /* KIND MODE SIDE ENTRIES FIELDS ROUNDS */
 static struct task read_task(char **words)
 {
-    static const char *const kinds[] = {"machine", "browser", "short", "machine-raw", "browser-raw"};
-    static const enum kind of[] = {MACHINE, BROWSER, SHORT, MACHINE, BROWSER};
+    static const char *const kinds[] = {"machine",     "browser",     "short",     "long",
+                                        "machine-raw", "browser-raw", "short-raw", "long-raw"};
+    static const enum kind of[] = {MACHINE, BROWSER, SHORT, LONG, MACHINE, BROWSER, SHORT, LONG};
     static const char *const modes[] = {"warm", "literal", "churn"};
     static const char *const sides[] = {"encode", "decode", "decode-packed"};
-    size_t kind = choice(words[0], kinds, 5);
+    size_t kind = choice(words[0], kinds, 8);
     struct task task = {
         .kind = of[kind],
-        .raw = kind > 2,
+        .raw = kind > 3,
         .mode = (enum mode)choice(words[1], modes, 3),
         .side = (enum side)choice(words[2], sides, 3),
         .entries = strtoul(words[3], NULL, 10),
@@ -99,7 +108,8 @@ static int count(char **words)
             continue;
         struct work *work = work_new(implementations[i], &task);
         work_run(work, run < task.rounds ? run : task.rounds);
-        printf("%.2f\n", work_bytes(work));
+        struct lengths bytes = work_bytes(work);
+        printf("%.4f %.4f\n", bytes.packet, bytes.strings);
         work_free(work);
         return 0;
     }

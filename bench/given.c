@@ -1,4 +1,5 @@
 #include "given.h"
+#include "huffman.h"
 #include "wire.h"
 
 static uint8_t *put_stream_list(uint8_t *at, const struct place *place)
@@ -29,15 +30,21 @@ void make_list(struct bytes *bytes, const struct list *list)
     bytes->length = (size_t)(at - bytes->at);
 }
 
-void make_block(struct bytes *bytes, const struct list *literals)
+void make_indexes(struct bytes *bytes)
 {
     uint8_t *at = bytes->at;
-    for (size_t i = 0; i < FIELDS; i++) {
-        at = literals == NULL ? put_integer(at, 0x80, 7, FIRST_INDEX + i) : put_integer(at, 0, 6, 0);
-        if (literals == NULL)
-            continue;
-        at = put_string(at, 0, 7, literals->fields[i].name);
-        at = put_string(at, 0, 7, literals->fields[i].value);
+    for (size_t i = 0; i < FIELDS; i++)
+        at = put_integer(at, 0x80, 7, FIRST_INDEX + i);
+    bytes->length = (size_t)(at - bytes->at);
+}
+
+void make_literals(struct bytes *bytes, const struct list *list, bool packed)
+{
+    uint8_t *(*put)(uint8_t *, unsigned, unsigned, struct text) = packed ? put_packed : put_string;
+    uint8_t *at = bytes->at;
+    for (size_t i = 0; i < list->count; i++) {
+        at = put_integer(at, 0, 6, 0);
+        at = put(put(at, 0, 7, list->fields[i].name), 0, 7, list->fields[i].value);
     }
     bytes->length = (size_t)(at - bytes->at);
 }

@@ -23,8 +23,11 @@ void make_delete(struct bytes *bytes, const struct place *place, size_t index);
 /* The host's form of a list. */
 void make_list(struct bytes *bytes, const struct list *list);
 
-/* A block: indexes from the first on, or where a list is given its fields as literals with names as strings. */
-void make_block(struct bytes *bytes, const struct list *literals);
+/* A block of indexes from the first on. */
+void make_indexes(struct bytes *bytes);
+
+/* A block of a list's fields as literals with names as strings, plain or packed where that is shorter. */
+void make_literals(struct bytes *bytes, const struct list *list, bool packed);
 
 /* An insert with the name of the first entry. */
 void make_insert(struct bytes *bytes, size_t index, struct text value);

@@ -3,7 +3,7 @@
 import os
 
 from plot import plot
-from report import OURS, table, whole
+from report import OURS, counted, table
 
 ENTRIES = [8, 32, 68, 128]
 FIELDS = [1, 2, 8, 64, 256, 1000]
@@ -116,10 +116,12 @@ def test(run):
 
 PROFILED = [("encoder block of 8, all in the table", "encoder-warm", "kolowrotan_encoder_block"),
             ("encoder block of 8 literals", "encoder-literal", "kolowrotan_encoder_block"),
+            ("encoder block of 8 literals, raw", "encoder-raw", "kolowrotan_encoder_block"),
             ("encoder insert", "encoder-insert", "kolowrotan_encoder_insert"),
             ("encoder delete", "encoder-delete", "kolowrotan_encoder_delete"),
             ("decoder block of 8, all in the table", "decoder-warm", "kolowrotan_decoder_block"),
             ("decoder block of 8 literals", "decoder-literal", "kolowrotan_decoder_block"),
+            ("decoder block of 8 packed literals", "decoder-packed", "kolowrotan_decoder_block"),
             ("decoder reads an insert", "decoder-insert", "kolowrotan_decoder_read"),
             ("decoder collect that frees an entry", "decoder-collect", "kolowrotan_decoder_collect")]
 
@@ -131,7 +133,8 @@ def where(run):
         place = {"entries": 32, **WITHIN}
         if call == "decoder-collect":
             place.update(deletes=1, ready=1)
-        shares = run.calls.profile(call, function, place)
+        cost = run.cost(call, place)
+        shares = [] if cost is None else run.calls.profile(call, function, place)
         shown = [f"`{name}` {100 * share:.0f} %" for name, share in shares[:4] if share >= 0.05]
-        rows.append([title, whole(run.cost(call, place)), ", ".join(shown)])
+        rows.append([title, counted(cost), ", ".join(shown)])
     run.add("where", "Where the instructions go, 32 entries", table(["call", "instructions", "of which"], rows))

@@ -20,6 +20,7 @@ struct message {
 struct packet {
     uint8_t *bytes;
     size_t before, block, after;
+    size_t strings; /* bytes of its strings before they are packed; only writers say it */
 };
 
 enum { PACKET_ROOM = 1 << 17, ACKNOWLEDGEMENT_ROOM = 1 << 12 };
@@ -62,10 +63,10 @@ struct implementation {
     /* Writes the bytes that go back to the encoder, and returns how many. */
     size_t (*decode)(void *decoder, const struct packet *in, struct sink *sink, uint8_t *acknowledgement);
 
-    /* Writes a packet with plain strings where the encoder above packs them; null where it does not. `table` is from plain.h. */
-    struct plain *(*plain_new)(size_t limit);
-    void (*plain_free)(struct plain *table);
-    void (*plain_write)(struct plain *table, const struct message *message, struct packet *out);
+    /* Writes what the decoder is given, with plain or with packed strings; see writer.h. */
+    void *(*writer_new)(size_t limit, bool packed);
+    void (*writer_free)(void *writer);
+    void (*write)(void *writer, const struct message *message, struct packet *out);
 
     size_t fixed_limit;    /* the largest limit, 0: any */
     bool given_back;       /* entries leave the table by deletes and acknowledgements, not by being pushed out */
@@ -78,5 +79,9 @@ extern const struct implementation nghttp3;
 extern const struct implementation lshpack;
 
 _Noreturn void fail(const char *format, ...);
+
+/* Ends the program with a status of its own: the implementation does not read packed strings. */
+enum { REFUSED = 2 };
+_Noreturn void refuse(const char *what);
 
 #endif

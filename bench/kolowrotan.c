@@ -1,9 +1,13 @@
 /* Kolowrotan, through its C interface. */
 #include "implementation.h"
 #include "kolowrotan.h"
+#include "writer.h"
 
 #include <stdlib.h>
 #include <string.h>
+
+/* What a library before packed strings answers to them. */
+enum { H_SET = 4 };
 
 /* The field list that the encoder's block call takes, and the fields that are inserted. */
 struct input {
@@ -30,10 +34,17 @@ static const char *version(void)
     return "";
 }
 
+static _Noreturn void not_done(uint64_t result, const char *call)
+{
+    if (KOLOWROTAN_ANSWER(result) == H_SET)
+        refuse("kolowrotan: this library refuses packed strings");
+    fail("kolowrotan: %s answered %d", call, KOLOWROTAN_ANSWER(result));
+}
+
 static size_t done(uint64_t result, const char *call)
 {
     if (KOLOWROTAN_ANSWER(result) != KOLOWROTAN_DONE)
-        fail("kolowrotan: %s answered %d", call, KOLOWROTAN_ANSWER(result));
+        not_done(result, call);
     return KOLOWROTAN_FIRST(result);
 }
 
@@ -201,6 +212,9 @@ const struct implementation kolowrotan = {
     .decoder_new = decoder_new,
     .decoder_free = free,
     .decode = decode,
+    .writer_new = draft_new,
+    .writer_free = draft_free,
+    .write = draft_write,
     .fixed_limit = KOLOWROTAN_LIMIT,
     .given_back = true,
 };

@@ -37,6 +37,14 @@ static const struct pattern brief[] = {
     {"grip", "%05u", UNKNOWN}, {"mast", "%05u", UNKNOWN}, {"lamp", "%05u", UNKNOWN}, {"gear", "%05u", UNKNOWN},
 };
 
+#define MORE "/loaders/report?site=yard&shift=night-2&driver=ann.kowal&unit=kg" /* 64 bytes */
+
+static const struct pattern lengthy[] = {
+    {"fuel", "%05u" MORE, UNKNOWN}, {"site", "%05u" MORE, UNKNOWN}, {"load", "%05u" MORE, UNKNOWN},
+    {"tilt", "%05u" MORE, UNKNOWN}, {"grip", "%05u" MORE, UNKNOWN}, {"mast", "%05u" MORE, UNKNOWN},
+    {"lamp", "%05u" MORE, UNKNOWN}, {"gear", "%05u" MORE, UNKNOWN},
+};
+
 static const struct pattern empty[] = {{"", "", UNKNOWN}};
 
 static const struct pattern browser[] = {
@@ -64,7 +72,7 @@ static const struct {
     const struct pattern *patterns;
     size_t count;
 } kinds[] = {
-    [MACHINE] = {COUNTED(machine)}, [BROWSER] = {COUNTED(browser)}, [SHORT] = {COUNTED(brief)},
+    [MACHINE] = {COUNTED(machine)}, [BROWSER] = {COUNTED(browser)}, [SHORT] = {COUNTED(brief)}, [LONG] = {COUNTED(lengthy)},
     [OTHER] = {COUNTED(other)},     [KNOWN] = {COUNTED(known)},     [EMPTY] = {COUNTED(empty)},
 };
 

@@ -31,6 +31,7 @@ enum kind {
     MACHINE, /* a machine's report: 8 short fields, names unknown to the static tables */
     BROWSER, /* a browser's request: 16 fields, names that every implementation stores */
     SHORT,   /* 8 fields of nine bytes, so that a block of 1,000 literals fits 16,384 bytes */
+    LONG,    /* SHORT with 64 bytes more in each value: what a byte costs */
     OTHER,   /* fields that no list above has, of the lengths of MACHINE: what else stands in a table */
     KNOWN,   /* MACHINE under names of RFC 9204's static table, for an encoder that stores no others */
     EMPTY    /* fields with no name and no value: of these alone a table of 4,096 bytes holds 128 */

@@ -1,6 +1,6 @@
 /* HPACK of ls-hpack, from lighttpd's source. */
 #include "implementation.h"
-#include "plain.h"
+#include "writer.h"
 
 #include <lshpack.h>
 #include <stdlib.h>
@@ -134,7 +134,7 @@ const struct implementation lshpack = {
     .decoder_new = decoder_new,
     .decoder_free = decoder_free,
     .decode = decode,
-    .plain_new = plain_new,
-    .plain_free = plain_free,
-    .plain_write = hpack_plain_write,
+    .writer_new = writer_new,
+    .writer_free = writer_free,
+    .write = hpack_write,
 };

@@ -10,6 +10,13 @@ COLLECTED = re.compile(r"Collected : (\d+)")
 FUNCTION = re.compile(r"^ *[\d,]+ \( *([\d.]+)%\) +[^ ]*?:([^ ]+)(?: \[.*\])?$", re.MULTILINE)
 
 
+REFUSED = 2  # the status of a program whose library refuses packed strings
+
+
+class Refused(Exception):
+    """A library from before packed strings."""
+
+
 def have_callgrind():
     return shutil.which("valgrind") is not None
 
@@ -19,9 +26,20 @@ def instructions(command):
     whole = ["valgrind", "--tool=callgrind", "--callgrind-out-file=/dev/null", *command]
     result = subprocess.run(whole, capture_output=True, text=True)
     found = COLLECTED.search(result.stderr)
+    if result.returncode == REFUSED:
+        raise Refused
     if result.returncode != 0 or found is None:
         raise RuntimeError(" ".join(command) + ": " + result.stderr.strip())
     return int(found.group(1))
+
+
+def printed(command):
+    """What a program prints."""
+    result = subprocess.run(command, capture_output=True, text=True)
+    if result.returncode == REFUSED:
+        raise Refused
+    result.check_returncode()
+    return result.stdout
 
 
 class Driver:
@@ -29,8 +47,7 @@ class Driver:
 
     def __init__(self, program):
         self.program = program
-        lines = subprocess.run([program, "names"], capture_output=True, text=True, check=True).stdout.splitlines()
-        self.versions = {line.split()[0]: " ".join(line.split()[1:]) for line in lines}
+        self.versions = {line.split()[0]: " ".join(line.split()[1:]) for line in printed([program, "names"]).splitlines()}
 
     def per_field(self, name, task):
         """Instructions per field: the difference of a whole and a half run, so that start, recording and checks cancel."""
@@ -41,12 +58,17 @@ class Driver:
         difference = instructions([*words, str(rounds)]) - instructions([*words, str(half)])
         return difference / ((rounds - half) * fields)
 
+    def lengths(self, name, task, rounds=64):
+        """Bytes per field of what is decoded, and of its strings before they are packed."""
+        kind, mode, side, entries, fields = task
+        words = [self.program, "count", name, kind, mode, side, str(entries), str(fields), str(rounds), "0"]
+        return [float(word) / fields for word in printed(words).split()]
+
     def times(self, task, rounds=1000, passes=21):
         """For each implementation: nanoseconds per field, and the time as a multiple of Kolowrotan's in the same pass."""
         kind, mode, side, entries, fields = task
         words = [self.program, "time", kind, mode, side, str(entries), str(fields), str(rounds), str(passes)]
-        lines = subprocess.run(words, capture_output=True, text=True, check=True).stdout.splitlines()
-        return {line.split()[0]: tuple(map(float, line.split()[1:])) for line in lines}
+        return {line.split()[0]: tuple(map(float, line.split()[1:])) for line in printed(words).splitlines()}
 
 
 class Calls:

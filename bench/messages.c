@@ -23,7 +23,7 @@ static enum kind kind_of_rounds(const struct implementation *by, const struct ta
 {
     if (by->fixed_limit != 0 && task->entries > COMMON_ENTRIES && task->mode != LITERALS)
         return EMPTY;
-    if (by->known_names_only && task->side != DECODE && task->mode != LITERALS && task->kind != BROWSER)
+    if (by->known_names_only && task->side == ENCODE && task->mode != LITERALS && task->kind != BROWSER)
         return KNOWN;
     return task->kind;
 }
@@ -34,7 +34,7 @@ static enum kind kind_of_loads(const struct implementation *by, const struct tas
         return EMPTY;
     if (task->mode != LITERALS)
         return kind_of_rounds(by, task);
-    return by->known_names_only && task->side != DECODE ? KNOWN : OTHER;
+    return by->known_names_only && task->side == ENCODE ? KNOWN : OTHER;
 }
 
 /* How many fields a list of this kind has when it fills the table, and how many entries they become. */

@@ -12,8 +12,8 @@ enum mode {
 
 enum side {
     ENCODE,
-    DECODE,       /* blocks with plain strings */
-    DECODE_PACKED /* blocks as the encoder of the implementation writes them */
+    DECODE,       /* plain strings */
+    DECODE_PACKED /* the same, packed where that is shorter */
 };
 
 struct task {

@@ -1,6 +1,6 @@
 /* HPACK of nghttp2. */
 #include "implementation.h"
-#include "plain.h"
+#include "writer.h"
 
 #include <nghttp2/nghttp2.h>
 #include <stdlib.h>
@@ -100,7 +100,7 @@ const struct implementation nghttp2 = {
     .decoder_new = decoder_new,
     .decoder_free = decoder_free,
     .decode = decode,
-    .plain_new = plain_new,
-    .plain_free = plain_free,
-    .plain_write = hpack_plain_write,
+    .writer_new = writer_new,
+    .writer_free = writer_free,
+    .write = hpack_write,
 };

@@ -1,6 +1,6 @@
 /* QPACK of nghttp3. */
 #include "implementation.h"
-#include "plain.h"
+#include "writer.h"
 
 #include <nghttp3/nghttp3.h>
 #include <stdlib.h>
@@ -168,8 +168,8 @@ const struct implementation nghttp3 = {
     .decoder_new = decoder_new,
     .decoder_free = decoder_free,
     .decode = decode,
-    .plain_new = plain_new,
-    .plain_free = plain_free,
-    .plain_write = qpack_plain_write,
+    .writer_new = writer_new,
+    .writer_free = writer_free,
+    .write = qpack_write,
     .known_names_only = true,
 };

@@ -5,6 +5,7 @@ import os
 import re
 
 from build import say
+from measure import Refused
 
 OURS = "kolowrotan"
 
@@ -22,6 +23,11 @@ def whole(value):
 
 def ratio(value):
     return "–" if value is None else f"{value:.2f}"
+
+
+def counted(value, digits=0):
+    """A number that was measured now."""
+    return "refused" if value is None else f"{value:,.{digits}f}"
 
 
 def key(*words):
@@ -44,20 +50,35 @@ class Run:
     # ---- single numbers ----
 
     def kept(self, name, measure, digits):
+        """A number, or None where the library refuses packed strings."""
         if name not in self.results:
             say(name)
-            self.results[name] = round(measure(), digits)
+            try:
+                self.results[name] = round(measure(), digits)
+            except Refused:
+                say(name + ": refused")
+                self.results[name] = None
         return self.results[name]
 
     def count(self, name, task):
         """Instructions per field."""
         return self.kept(key("instructions", name, *task), lambda: self.driver.per_field(name, task), 2)
 
+    def lengths(self, name, task):
+        """Bytes per field of what is decoded, and of its strings before they are packed."""
+        return [self.kept(key(words, name, *task), lambda i=i: self.driver.lengths(name, task)[i], 3)
+                for i, words in enumerate(["bytes", "strings"])]
+
     def time(self, task):
         """Nanoseconds per field, and shares of the time of Kolowrotan, of all implementations in one interleaved run."""
         if key("nanoseconds", OURS, *task) not in self.results:
             say(key("nanoseconds", *task))
-            for name, (nanoseconds, share) in self.driver.times(task).items():
+            try:
+                measured = self.driver.times(task)
+            except Refused:
+                say(key("nanoseconds", *task) + ": refused")
+                measured = {name: (None, None) for name in self.all_names}
+            for name, (nanoseconds, share) in measured.items():
                 self.results[key("nanoseconds", name, *task)] = nanoseconds
                 self.results[key("share", name, *task)] = share
         return {name: (self.results[key("nanoseconds", name, *task)], self.results[key("share", name, *task)]) for name in self.all_names}
@@ -75,7 +96,7 @@ class Run:
         """A row for each implementation, and for Kolowrotan one for what was before."""
         rows = []
         for name in self.names:
-            rows.append([name] + [whole(self.count(name, task)) for task in tasks])
+            rows.append([name] + [counted(self.count(name, task)) for task in tasks])
             old = [self.before.get(key("instructions", OURS, *task)) for task in tasks]
             if name == OURS and any(old):
                 rows.insert(0, [OURS + ", before"] + [whole(value) for value in old])
@@ -85,7 +106,7 @@ class Run:
         if place is None:
             return "–"
         now, old = self.cost(call, place), self.before.get(self.call_key(call, place))
-        return whole(now) if old is None or old == now else f"{whole(old)} → {whole(now)}"
+        return counted(now) if old is None or old == now else f"{whole(old)} → {counted(now)}"
 
     # ---- the report ----
 

@@ -54,25 +54,23 @@ static void check_packet(struct work *work, void *decoder, size_t i)
 static void record(struct work *work)
 {
     static uint8_t bytes[PACKET_ROOM];
-    struct packet live = {bytes, 0, 0, 0};
+    struct packet live = {.bytes = bytes};
     const struct implementation *by = work->by;
-    bool plain = work->task.side == DECODE && by->plain_new != NULL;
-    struct plain *table = plain ? by->plain_new(work->limit) : NULL;
-    void *encoder = by->encoder_new(work->limit), *decoder = by->decoder_new(work->limit);
+    bool encoding = work->task.side == ENCODE;
+    void *from = encoding ? by->encoder_new(work->limit) : by->writer_new(work->limit, work->task.side == DECODE_PACKED);
+    void *decoder = by->decoder_new(work->limit);
     for (size_t i = 0; i < work->messages.count; i++) {
-        if (plain)
-            by->plain_write(table, message_at(work, i), &live);
+        if (encoding)
+            by->encode(from, work->inputs[i], &live);
         else
-            by->encode(encoder, work->inputs[i], &live);
+            by->write(from, message_at(work, i), &live);
         work->packets[i] = keep_packet(&live);
         check_packet(work, decoder, i);
-        if (!plain && by->acknowledge != NULL)
-            by->acknowledge(encoder, work->acknowledgements[i].at, work->acknowledgements[i].length);
+        if (encoding && by->acknowledge != NULL)
+            by->acknowledge(from, work->acknowledgements[i].at, work->acknowledgements[i].length);
     }
-    by->encoder_free(encoder);
+    (encoding ? by->encoder_free : by->writer_free)(from);
     by->decoder_free(decoder);
-    if (plain)
-        by->plain_free(table);
 }
 
 struct work *work_new(const struct implementation *by, const struct task *task)
@@ -121,7 +119,7 @@ static uint64_t now(void)
 static void encode_range(const struct work *work, void *encoder, size_t from, size_t to)
 {
     static uint8_t bytes[PACKET_ROOM];
-    struct packet live = {bytes, 0, 0, 0};
+    struct packet live = {.bytes = bytes};
     const struct implementation *by = work->by;
     for (size_t i = from; i < to; i++) {
         by->encode(encoder, work->inputs[i], &live);
@@ -153,10 +151,12 @@ uint64_t work_run(const struct work *work, size_t rounds)
     return time;
 }
 
-double work_bytes(const struct work *work)
+struct lengths work_bytes(const struct work *work)
 {
-    size_t bytes = 0;
-    for (size_t i = work->messages.loads; i < work->messages.count; i++)
-        bytes += work->packets[i].before + work->packets[i].block + work->packets[i].after;
-    return (double)bytes / (double)(work->messages.count - work->messages.loads);
+    size_t packet = 0, strings = 0, rounds = work->messages.count - work->messages.loads;
+    for (size_t i = work->messages.loads; i < work->messages.count; i++) {
+        packet += work->packets[i].before + work->packets[i].block + work->packets[i].after;
+        strings += work->packets[i].strings;
+    }
+    return (struct lengths){(double)packet / (double)rounds, (double)strings / (double)rounds};
 }

@@ -13,7 +13,10 @@ void work_free(struct work *work);
 /* Runs the first `rounds` rounds on a fresh table and returns the nanoseconds of processor time that they took. */
 uint64_t work_run(const struct work *work, size_t rounds);
 
-/* The bytes that a round's packet has, on average. */
-double work_bytes(const struct work *work);
+/* The bytes that a round's packet has, and its strings before they are packed if a writer wrote it, on average. */
+struct lengths {
+    double packet, strings;
+};
+struct lengths work_bytes(const struct work *work);
 
 #endif
