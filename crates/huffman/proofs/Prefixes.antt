@@ -156,7 +156,7 @@ no-code-begins i j h k b = split i j below (λ g. split j i above (λ l. omega a
     above : j < i → i ≡ j
     above l = absurd (not-apart d c (sym (cut c d (s .0) ∙ s .1)) (codes-apart j i l h))
 
--- ---- every bit string of 30 bits is begun by a code: the shares of the codes make one whole
+-- ---- the code is complete: the shares of the codes, each a part of all bit strings of 30 bits, make one whole
 
 unfoldable pub share : List Code → ℕ
 share [] = 0
