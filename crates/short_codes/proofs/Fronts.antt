@@ -8,8 +8,16 @@ use borrow.Author.Tests.{ltb-true, leb-true, eqb-true}
 use Rattle.memory.specs.Choice.{pick}
 use Rattle.memory.proofs.Order.{split}
 use Rattle.huffman.specs.Codes.{codes, codeOf}
+use Rattle.huffman.proofs.Arms.{NoneBelow, none-below}
 use Rattle.huffman.proofs.Prefixes.{pick-first, pick-second}
 use Rattle.short_codes.specs.Short.{isShort, shortIn, shortOf}
+
+-- the program turns the byte by half a circle, and this turns it back
+pub turned : {x k : ℕ} → x < 256 → (x + 128) % 256 ≡ k → (k + 128) % 256 ≡ x
+turned h e = omega arith
+
+pub turned-last : {x : ℕ} → x < 256 → NoneBelow 255 ((x + 128) % 256) → 127 ≡ x
+turned-last {x} h r = omega (arith, none-below 255 ((x + 128) % 256) r)
 
 -- 254 and 255 begin longer codes
 pub short-none : (x : ℕ) → 254 ≤ x → x < 256 → shortOf x ≡ 64

@@ -1,23 +1,25 @@
 -- The state of unpacking: the bytes that are done, and then what the bits that wait give, are the whole.
 use mathlib.Core.Path.{_≡_, refl, sym, ap, ap₂, subst, _∙_}
-use mathlib.Core.Bool.{Bool}
-use Prim.Native.Nat.{ℕ, suc, _+_, _-_, _*_, _%_, _^_, _≤_, _<_}
+use mathlib.Core.Bool.{Bool, false}
+use Prim.Native.Nat.{ℕ, suc, _+_, _-_, _*_, _/_, _%_, _^_, _≤_, _<_}
 use native.Mathlib.Omega.{arith}
 use mathlib.Core.List.{List, [], _∷_, _++_, append-assoc, append-nil}
 use lib.ListN.{length, set, length-append}
 use Rattle.memory.specs.Bytes.{part, overlay}
+use Rattle.memory.proofs.Order.{split}
 use Rattle.memory.proofs.Overlay.{overlay-append}
 use Rattle.memory.proofs.Places.{length-part}
 use Rattle.huffman.specs.Bits.{bitsOf, bits}
-use Rattle.huffman.specs.Packing.{Unpacked, codeBits, padding, before, unpackBits, unpack}
+use Rattle.huffman.specs.Packing.{Unpacked, padding, ended, before, unpackBits, unpack}
 use Rattle.huffman.proofs.BitLaws.{length-bits}
-use Rattle.huffman.proofs.Prefixes.{code-fit, length-codeBits}
 use Rattle.huffman.proofs.Unpacks.{unpack-byte, length-unpack}
+use Rattle.short_codes.specs.Short.{shortOf}
 use Rattle.unpacking.specs.declared.bits.Bits.{Bits}
+use Rattle.unpacking.specs.Fronts.{LongCode}
 use Rattle.unpacking.specs.Waiting.{highest, waiting, Sound, Refilled}
 use Rattle.unpacking.proofs.Highest.{length-highest}
 use Rattle.unpacking.proofs.Refills.{held}
-use Rattle.unpacking.proofs.Turns.{Front, Stop, taken-sound, taken-waiting, stopped}
+use Rattle.unpacking.proofs.Turns.{Taken, taken-sound, taken-waiting, taken-length, stopped-few, stopped-many}
 
 -- the packed string between two places
 abbrev pub stringAt : List ℕ → ℕ → ℕ → Unpacked
@@ -41,6 +43,10 @@ start s from to h = record {
   enough = omega arith;
   sound = record { few = omega arith; wide = omega arith; zeros = refl; within = h };
 }
+
+-- no code is shorter than five bits
+pub unpack-length : (b : List ℕ) → 5 * length (unpack b .bytes) ≤ 8 * length b
+unpack-length b = omega (arith, length-unpack b)
 
 -- how many bits wait
 pub waiting-length : (s : List ℕ) (to : ℕ) (b : Bits) → b .at ≤ to → to ≤ length s → length (waiting s to b) ≡ b .n + 8 * (to - b .at)
@@ -73,36 +79,36 @@ module _ {s : List ℕ} {from to : ℕ} {b : Bits} {done : List ℕ} (p : Progre
   fuel-suc : p .fuel ≡ suc (p .fuel - 1)
   fuel-suc = let e = p .enough in omega arith
 
-  pub turn : (c : ℕ) (f : Front (b .w) c) → c % 256 ≤ b .n
-      → Progress s from to (held (b .w * 2 ^ (c % 256) % 2 ^ 64) (b .n - c % 256) (b .at)) (done ++ (f .byte ∷ []))
-  turn c f l =
-      let next : Bits = held (b .w * 2 ^ (c % 256) % 2 ^ 64) (b .n - c % 256) (b .at) in
+  pub turn : (byte size : ℕ) → Taken (b .w) (b .n) byte size
+      → Progress s from to (held (b .w * 2 ^ size % 2 ^ 64) (b .n - size) (b .at)) (done ++ (byte ∷ []))
+  turn byte size q =
+      let next : Bits = held (b .w * 2 ^ size % 2 ^ 64) (b .n - size) (b .at) in
       let k : ℕ = p .fuel - 1 in
-      let w : waiting s to b ≡ codeBits (f .byte) ++ waiting s to next = taken-waiting s to (p .sound) c f l in
-      let u : unpackBits (p .fuel) (waiting s to b) ≡ before (f .byte) (unpackBits k (waiting s to next)) =
-      ap₂ unpackBits fuel-suc w ∙ unpack-byte k (f .byte) (waiting s to next) (f .within) in
+      let u : unpackBits (p .fuel) (waiting s to b) ≡ before byte (unpackBits k (waiting s to next)) =
+      ap₂ unpackBits fuel-suc (taken-waiting s to (p .sound) byte size q) ∙ unpack-byte k byte (waiting s to next) (q .within) in
       let bytes : List ℕ = unpackBits k (waiting s to next) .bytes in
       record {
         fuel = k;
         whole =
             p .whole ∙ ap (onto done) u
-            ∙ ap (λ (xs : List ℕ). record { bytes = xs; whole = unpackBits k (waiting s to next) .whole }) (sym (append-assoc done (f .byte ∷ []) bytes));
-        enough =
-            omega (
-              arith,
-              p .enough,
-              ap length w,
-              length-append (codeBits (f .byte)) (waiting s to next),
-              length-codeBits (f .byte),
-              code-fit (f .byte) (omega (arith, f .within)) .low,
-            );
-        sound = taken-sound s to (p .sound) c f l;
+            ∙ ap (λ (xs : List ℕ). record { bytes = xs; whole = unpackBits k (waiting s to next) .whole }) (sym (append-assoc done (byte ∷ []) bytes));
+        enough = omega (arith, p .enough, taken-length s to (p .sound) byte size q);
+        sound = taken-sound s to (p .sound) byte size q;
       }
 
-  pub stop : (b .n < 32 → b .at ≡ to) → Stop (b .w) (b .n) → stringAt s from to ≡ record { bytes = done; whole = padding (highest (b .n) (b .w)) }
-  stop full q =
-      p .whole ∙ ap (onto done) (ap (λ (f : ℕ). unpackBits f (waiting s to b)) fuel-suc ∙ stopped s to (p .sound) (p .fuel - 1) full q)
-      ∙ ap (λ (xs : List ℕ). record { bytes = xs; whole = padding (highest (b .n) (b .w)) }) (append-nil done)
+  -- the bits that wait give no byte
+  ends : (v : Bool) → unpackBits (suc (p .fuel - 1)) (waiting s to b) ≡ ended v → stringAt s from to ≡ record { bytes = done; whole = v }
+  ends v e =
+      p .whole ∙ ap (onto done) (ap (λ (f : ℕ). unpackBits f (waiting s to b)) fuel-suc ∙ e)
+      ∙ ap (λ (xs : List ℕ). record { bytes = xs; whole = v }) (append-nil done)
+
+  pub stop-few : (b .n < 32 → b .at ≡ to) → b .n < 10 → b .n < shortOf (b .w / 2 ^ 56) % 256
+      → stringAt s from to ≡ record { bytes = done; whole = padding (highest (b .n) (b .w)) }
+  stop-few full few l = ends (padding (highest (b .n) (b .w))) (stopped-few s to (p .sound) (p .fuel - 1) full few l)
+
+  pub stop-many : (d : ℕ) → (b .n < 32 → b .at ≡ to) → 10 ≤ b .n → b .n < shortOf (b .w / 2 ^ 56) % 256 → LongCode (b .w / 2 ^ 32) d → b .n < d % 256
+      → stringAt s from to ≡ record { bytes = done; whole = false }
+  stop-many d full many l q k = ends false (stopped-many s to (p .sound) (p .fuel - 1) d full many l q k)
 
 -- one more byte, counted and written
 pub more : (done : List ℕ) (x : ℕ) → length (done ++ (x ∷ [])) ≡ length done + 1
@@ -111,38 +117,17 @@ more done x = length-append done (x ∷ [])
 pub more-written : (out : List ℕ) (at : ℕ) (done : List ℕ) (x : ℕ) → set (overlay out at done) (at + length done) x ≡ overlay out at (done ++ (x ∷ []))
 more-written out at done x = sym (overlay-append out at done (x ∷ []))
 
--- fewer bits wait
-pub turn-less : (s : List ℕ) (to : ℕ) (a b : Bits) (c : ℕ) → Refilled s to a b → (f : Front (b .w) c) → c % 256 ≤ b .n
-    → length (waiting s to (held (b .w * 2 ^ (c % 256) % 2 ^ 64) (b .n - c % 256) (b .at))) < length (waiting s to a)
-turn-less s to a b c q f l =
-    let next : Bits = held (b .w * 2 ^ (c % 256) % 2 ^ 64) (b .n - c % 256) (b .at) in
-    omega (
-      arith,
-      ap length (q .same),
-      ap length (taken-waiting s to (q .sound) c f l),
-      length-append (codeBits (f .byte)) (waiting s to next),
-      length-codeBits (f .byte),
-      code-fit (f .byte) (omega (arith, f .within)) .low,
-    )
+-- what is left to do: a turn takes bits, and a refill bytes
+abbrev pub left : List ℕ → ℕ → Bits → ℕ
+left s to b = length (waiting s to b) + (to - b .at)
 
--- ---- with the size that the program has
+pub refill-left : (s : List ℕ) (to : ℕ) (b r : Bits) → Sound to b → to ≤ length s → Refilled s to b r → b .at < to → b .n < 32 → left s to r < left s to b
+refill-left s to b r p l q h few =
+    let e = ap length (q .same) in
+    let x = waiting-length s to b (p .within) l in
+    let y = waiting-length s to r (q .sound .within) l in
+    split (r .n) 32 (λ m. omega (arith, q .full m)) (λ m. omega arith)
 
--- a code that begins the bits in w, and that these hold
-pub record Chosen (w n size : ℕ) : Type 0 where
-  pub code : ℕ
-  pub front : Front w code
-  pub fits : code % 256 ≤ n
-  pub same : code % 256 ≡ size
-
-module _ {s : List ℕ} {from to : ℕ} {b : Bits} {done : List ℕ} (p : Progress s from to b done) where
-  pub turn-sized : (size : ℕ) (q : Chosen (b .w) (b .n) size)
-      → Progress s from to (held (b .w * 2 ^ size % 2 ^ 64) (b .n - size) (b .at)) (done ++ (q .front .byte ∷ []))
-  turn-sized size q =
-      subst (λ (k : ℕ). Progress s from to (held (b .w * 2 ^ k % 2 ^ 64) (b .n - k) (b .at)) (done ++ (q .front .byte ∷ []))) (q .same)
-      (turn p (q .code) (q .front) (q .fits))
-
-pub less-sized : (s : List ℕ) (to : ℕ) (a b : Bits) (size : ℕ) → Refilled s to a b → Chosen (b .w) (b .n) size
-    → length (waiting s to (held (b .w * 2 ^ size % 2 ^ 64) (b .n - size) (b .at))) < length (waiting s to a)
-less-sized s to a b size r q =
-    subst (λ (k : ℕ). length (waiting s to (held (b .w * 2 ^ k % 2 ^ 64) (b .n - k) (b .at))) < length (waiting s to a)) (q .same)
-    (turn-less s to a b (q .code) r (q .front) (q .fits))
+pub turn-left : (s : List ℕ) (to : ℕ) (b : Bits) (byte size : ℕ) → Sound to b → Taken (b .w) (b .n) byte size
+    → left s to (held (b .w * 2 ^ size % 2 ^ 64) (b .n - size) (b .at)) < left s to b
+turn-left s to b byte size p q = omega (arith, taken-length s to p byte size q)

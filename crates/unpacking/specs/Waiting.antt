@@ -9,6 +9,7 @@ use Rattle.huffman.specs.Bits.{bitsOf, bits}
 use Rattle.huffman.specs.Packing.{Unpacked}
 use Rattle.unpacking.specs.declared.bits.Bits.{Bits}
 use Rattle.unpacking.specs.declared.unpack.UnpackedSize.{UnpackedSize}
+use Rattle.unpacking.specs.declared.unpack.UnpackedEnd.{UnpackedEnd}
 
 -- the n highest of the 64 bits of w
 unfoldable pub highest : ℕ → ℕ → List Bool
@@ -38,3 +39,7 @@ wordAt s at = 16777216 * getD s at 0 + 65536 * getD s (at + 1) 0 + 256 * getD s 
 -- how many bytes, and is the string whole?
 abbrev pub sizeOf : Unpacked → UnpackedSize
 sizeOf u = record { count = length (u .bytes); whole = u .whole }
+
+-- the place after the bytes from a place on, and is the string whole?
+abbrev pub endOf : ℕ → Unpacked → UnpackedEnd
+endOf at u = record { next = at + length (u .bytes); whole = u .whole }

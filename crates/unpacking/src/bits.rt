@@ -25,17 +25,17 @@ fn word_at(s: &[u8], at: usize) -> u64
     16_777_216 * wide(s[at]) + 65_536 * wide(s[at + 1]) + 256 * wide(s[at + 2]) + wide(s[at + 3])
 }
 
+// Where fewer bits wait in `w`, there is room for four bytes more.
+pub const FULL: u64 = 32;
+
 // The same bits, at least 32 of them in `w` while there are bytes.
 pub fn refill(s: &[u8], to: usize, b: Bits) -> Bits
-    requires { ⌜ Sound to b × (to ≤ length (now s)) ⌝ }
+    requires { ⌜ Sound to b × (to ≤ length (now s)) × (b .n < 32) ⌝ }
     ensures { λ r. ⌜ Refilled (now (s .entry)) to b r ⌝ }
 {
     let w = b.w;
     let n = b.n;
     let at = b.at;
-    if 32 <= n {
-        return b;
-    }
     if to - at < 4 {
         return refill_last(s, to, b);
     }

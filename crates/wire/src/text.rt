@@ -92,7 +92,7 @@ impl StringPlace {
         let start = self.start;
         let end = start + self.size;
         if self.packed {
-            return unpack(s, start, end, out, at);
+            return unpack(s, start, end, out, at).next;
         }
         copy(&s[start..end], out, at)
     }

@@ -4,6 +4,7 @@ use native.Mathlib.Omega.{arith}
 use lib.ListN.{length}
 use denote.Ref.{now}
 use Rattle.memory.specs.Bytes.{overlay}
+use Rattle.unpacking.specs.declared.unpack.UnpackedEnd.{UnpackedEnd}
 use Rattle.wire.proofs.TextBounds.{string-size, string-part, unpacked-bytes, unpacked-length}
 use borrow.Author.Needs.{needs}
 use Rattle.wire.proofs.text.StringPlace.copy.Statement.{statement}
@@ -29,7 +30,7 @@ returns c =
     let p = d .args .self in
     let e = c .before .before .before .before .if1 .taken in
     let u = c .before .before .unpack .ensures in
-    (omega (arith, u .0, unpacked-length s p e (d .pre .0)), u .1 ∙ ap (overlay (now (d .args .out)) (d .args .at)) (unpacked-bytes s p e))
+    (omega (arith, ap (λ (r : UnpackedEnd). r .next) (u .0), unpacked-length s p e (d .pre .0)), u .1 ∙ ap (overlay (now (d .args .out)) (d .args .at)) (unpacked-bytes s p e))
 
 sub-copy : tie.Need-sub-copy
 sub-copy c = search needs
