@@ -6,28 +6,21 @@ use native.Mathlib.Omega.{arith}
 use native.Mathlib.Nat.{zero-add}
 use native.Mathlib.Numerals.{add-one}
 use mathlib.Core.List.{List, [], _∷_, _++_, append-assoc, append-nil}
-use lib.ListN.{length, getD, drop, set, drop-of-length-le}
+use lib.ListN.{length, getD, drop, set, drop-of-length-le, length-append}
 use lib.Seq.{drop-cons}
+use lib.Dec.{leb}
+use borrow.Author.Tests.{le-leb, lt-leb}
 use Rattle.memory.specs.Bytes.{overlay}
+use Rattle.memory.proofs.Order.{pick-true, pick-false}
 use Rattle.memory.proofs.Overlay.{length-overlay, overlay-append}
 use Rattle.huffman.specs.Codes.{codeOf}
 use Rattle.huffman.specs.Bits.{bitsOf, bytesOf, ones, Pushed}
-use Rattle.huffman.specs.Stored.{stored}
 use Rattle.huffman.specs.Packing.{codeBits, codesOf, codesSize, packedSize, pack}
+use Rattle.huffman.specs.Within.{packedIn, PackedOver}
+use Rattle.huffman.specs.declared.pack.Packed.the-variants.{Ends, Longer}
 use Rattle.huffman.proofs.BitLaws.{length-bytesOf}
-use Rattle.huffman.proofs.Prefixes.{code-fit}
 use Rattle.huffman.proofs.Packs.{size-most}
 use Rattle.huffman.proofs.Pushing.{byte-off, word-off}
-
--- ---- what the program's table says
-
-pub stored-size : (i : ℕ) → stored i % 32 ≡ codeOf i .size
-unfolding stored
-stored-size i = omega (arith, size-most i)
-
-pub stored-value : (i : ℕ) → stored i / 32 ≡ codeOf i .value
-unfolding stored
-stored-value i = omega (arith, size-most i)
 
 -- ---- the codes of what is left
 
@@ -82,6 +75,36 @@ remainder-end n u s i h =
     let e : n + codesSize (drop i s) + 7 ≡ n + 7 = omega (arith, codesSize-past s i h) in
     ap₂ (λ (m : ℕ) (xs : List ℕ). bytesOf (m / 8) (bitsOf n u ++ (codesOf xs ++ ones 7))) e (drop-of-length-le s {i = i} h)
 
+-- ---- the last bytes
+
+-- the whole bytes of n bits, of which fewer than eight are left over
+unfoldable pub lastBytes : ℕ → ℕ → List ℕ
+lastBytes n v = bytesOf (n / 8) (bitsOf n v)
+
+pub last-bytes : (n u v : ℕ) → n ≤ 57 → Pushed u 7 127 v → bytesOf ((n + 7) / 8) (bitsOf n u ++ ones 7) ≡ lastBytes (n + 7) v
+unfolding Pushed bitsOf lastBytes
+last-bytes n u v h p = ap (bytesOf ((n + 7) / 8)) (sym (p n (omega arith)))
+
+-- the first of them stored
+pub last-store : (l : List ℕ) (at next n k v : ℕ) → next ≡ at + 1 → n ≡ 8 + k
+    → overlay l at (lastBytes n v) ≡ overlay (set l at (v / 2 ^ k % 256)) next (lastBytes k v)
+unfolding lastBytes
+last-store l at next n k v f e =
+    let m : n / 8 ≡ suc (k / 8) = omega arith in
+    let x : ℕ = v / 2 ^ k % 256 in
+    let first : bytesOf (n / 8) (bitsOf n v) ≡ x ∷ bytesOf (k / 8) (bitsOf k v) =
+    ap₂ (λ (i j : ℕ). bytesOf i (bitsOf j v)) m e
+    ∙ ap (bytesOf (suc (k / 8))) (sym (append-nil (bitsOf (8 + k) v)))
+    ∙ byte-off (k / 8) k v []
+    ∙ ap (λ (r : List Bool). x ∷ bytesOf (k / 8) r) (append-nil (bitsOf k v))
+    in
+    ap (overlay l at) first ∙ ap (λ (i : ℕ). overlay (set l at x) i (bytesOf (k / 8) (bitsOf k v))) (sym f)
+
+-- none is left
+pub last-none : (l : List ℕ) (at n v : ℕ) → n < 8 → overlay l at (lastBytes n v) ≡ l
+unfolding lastBytes bytesOf
+last-none l at n v h = let e : n / 8 ≡ 0 = omega arith in ap (λ (m : ℕ). overlay l at (bytesOf m (bitsOf n v))) e
+
 -- ---- stores
 
 pub four-stores : (l : List ℕ) (at a b c d : ℕ)
@@ -91,49 +114,44 @@ four-stores l at a b c d =
     let f : at + 3 ≡ at + 1 + 1 + 1 = omega arith in
     ap₂ (λ (i j : ℕ). set (set (set (set l at a) (at + 1) b) i c) j d) e f
 
--- what is written and what is left make the whole
-pub written : (whole out out′ : List ℕ) (to : ℕ) (word rest : List ℕ) → length word ≡ 4 → whole ≡ overlay out to (word ++ rest)
-    → out′ ≡ overlay out to word → whole ≡ overlay out′ (to + 4) rest
-written whole out out′ to word rest l e d =
-    e ∙ overlay-append out to word rest ∙ ap₂ (λ (m : List ℕ) (k : ℕ). overlay m (to + k) rest) (sym d) l
-
--- the bits that are left at the end, a byte at a time
-pub last-byte : (left u : ℕ) → 8 ≤ left → bytesOf (left / 8) (bitsOf left u) ≡ u / 2 ^ (left - 8) % 256 ∷ bytesOf ((left - 8) / 8) (bitsOf (left - 8) u)
-last-byte left u h =
-    let e : left ≡ 8 + (left - 8) = omega arith in
-    let k : left / 8 ≡ suc ((left - 8) / 8) = omega arith in
-    ap₂ (λ (m j : ℕ). bytesOf m (bitsOf j u)) k e
-    ∙ ap (bytesOf (suc ((left - 8) / 8))) (sym (append-nil (bitsOf (8 + (left - 8)) u)))
-    ∙ byte-off ((left - 8) / 8) (left - 8) u []
-    ∙ ap (λ (r : List Bool). u / 2 ^ (left - 8) % 256 ∷ bytesOf ((left - 8) / 8) r) (append-nil (bitsOf (left - 8) u))
-
-pub last-bits : (n u v : ℕ) → n ≤ 57 → Pushed u 7 127 v → bitsOf n u ++ ones 7 ≡ bitsOf (n + 7) v
-unfolding Pushed bitsOf
-last-bits n u v h p = sym (p n (omega arith))
-
-pub no-bytes : (left u : ℕ) → left < 8 → bytesOf (left / 8) (bitsOf left u) ≡ []
-unfolding bytesOf
-no-bytes left u h = let e : left / 8 ≡ 0 = omega arith in ap (λ (m : ℕ). bytesOf m (bitsOf left u)) e
-
 -- ---- the state of packing
 
--- `out` holds what is written, up to the place `to`: the rest is n bits of u and the codes from the place i on
+-- `out` holds the bytes that are written, up to the place `to`: the rest is n bits of u and the codes from the place i on
 pub record Packing (s out₀ : List ℕ) (at : ℕ) (out : List ℕ) (u n to i : ℕ) : Type 0 where
   pub within : i ≤ length s
-  pub whole : overlay out₀ at (pack s) ≡ overlay out to (remainder n u (drop i s))
+  pub bytes : List ℕ
+  pub whole : pack s ≡ bytes ++ remainder n u (drop i s)
+  pub stands : out ≡ overlay out₀ at bytes
+  pub place : to ≡ at + length bytes
   pub room : at + packedSize s ≡ to + (n + codesSize (drop i s) + 7) / 8
-  pub same : length out ≡ length out₀
 
 pub packing-start : (s out : List ℕ) (at u : ℕ) → Packing s out at out u 0 at 0
 unfolding packedSize
 packing-start s out at u = record {
   within = omega arith;
-  whole = ap (overlay out at) (remainder-start u s);
+  bytes = [];
+  whole = remainder-start u s;
+  stands = refl;
+  place = omega arith;
   room = ap (λ (k : ℕ). at + (k + 7) / 8) (sym (zero-add (codesSize s)));
-  same = refl;
 }
 
+-- what packing comes to where the bytes would run past the end
+longer-in : (s : List ℕ) (at end : ℕ) → end < at + packedSize s → Longer ≡ packedIn s at end
+unfolding packedIn
+longer-in s at end h = sym (pick-false (leb (at + packedSize s) end) (Ends (at + packedSize s)) Longer (lt-leb (at + packedSize s) end h))
+
+longer-over : (s out out′ junk : List ℕ) (at end : ℕ) → end < at + packedSize s → length junk ≤ end - at → out′ ≡ overlay out at junk
+    → PackedOver s at end out out′
+longer-over s out out′ junk at end h l e = record { fits = λ k. absurd (omega arith); longer = λ k. (junk, l, e) }
+
+pub packing-none : (s out : List ℕ) (at end : ℕ) → end < at → (Longer ≡ packedIn s at end) × PackedOver s at end out out
+packing-none s out at end h = (longer-in s at end (omega arith), longer-over s out out [] at end (omega arith) (omega arith) refl)
+
 module _ {s out₀ : List ℕ} {at : ℕ} {out : List ℕ} {u n to i : ℕ} (p : Packing s out₀ at out u n to i) where
+  pub packing-same : length out ≡ length out₀
+  packing-same = ap length (p .stands) ∙ length-overlay out₀ at (p .bytes)
+
   pub packing-code : (v l x : ℕ) → i < length s → n < 32 → l ≡ codeOf (getD s i 0) .size → x ≡ codeOf (getD s i 0) .value → Pushed u l x v
       → Packing s out₀ at out v (n + l) to (i + 1)
   packing-code v l x h b e d q =
@@ -143,36 +161,62 @@ module _ {s out₀ : List ℕ} {at : ℕ} {out : List ℕ} {u n to i : ℕ} (p :
       remainder-code s i n u v h (omega arith) r ∙ ap (λ (k : ℕ). remainder (n + k) v (drop (i + 1) s)) (sym e) in
       record {
         within = omega arith;
-        whole = p .whole ∙ ap (overlay out to) w;
+        bytes = p .bytes;
+        whole = p .whole ∙ ap (λ (xs : List ℕ). p .bytes ++ xs) w;
+        stands = p .stands;
+        place = p .place;
         room = omega (arith, p .room, codesSize-next s i h);
-        same = p .same;
       }
 
-  -- a word is left to write where it fits
-  pub packing-room : 32 ≤ n → at + packedSize s ≤ length out₀ → to + 4 ≤ length out
-  packing-room h b = omega (arith, p .room, p .same)
+  -- bytes written behind those that stand there
+  added : (xs : List ℕ) → overlay out to xs ≡ overlay out₀ at (p .bytes ++ xs)
+  added xs =
+      ap₂ (λ (m : List ℕ) (k : ℕ). overlay m k xs) (p .stands) (p .place) ∙ sym (overlay-append out₀ at (p .bytes) xs)
 
   pub packing-word : (out′ : List ℕ) (n′ to′ : ℕ) → 32 ≤ n → out′ ≡ overlay out to (bytesOf 4 (bitsOf 32 (u / 2 ^ (n - 32)))) → n′ ≡ n - 32
       → to′ ≡ to + 4 → Packing s out₀ at out′ u n′ to′ i
   packing-word out′ n′ to′ h e f g =
       let word : List ℕ = bytesOf 4 (bitsOf 32 (u / 2 ^ (n - 32))) in
+      let rest : List ℕ = remainder (n - 32) u (drop i s) in
+      let four : length word ≡ 4 = length-bytesOf 4 (bitsOf 32 (u / 2 ^ (n - 32))) in
       rw (f, g) record {
         within = p .within;
+        bytes = p .bytes ++ word;
         whole =
-            written (overlay out₀ at (pack s)) out out′ to word (remainder (n - 32) u (drop i s)) (length-bytesOf 4 (bitsOf 32 (u / 2 ^ (n - 32))))
-            (p .whole ∙ ap (overlay out to) (remainder-word n u (drop i s) h)) e;
+            p .whole ∙ ap (λ (xs : List ℕ). p .bytes ++ xs) (remainder-word n u (drop i s) h)
+            ∙ sym (append-assoc (p .bytes) word rest);
+        stands = e ∙ added word;
+        place = omega (arith, p .place, length-append (p .bytes) word);
         room = omega (arith, p .room);
-        same = ap length e ∙ length-overlay out to word ∙ p .same;
       }
 
   pub packing-kept : (out′ : List ℕ) (n′ to′ : ℕ) → out′ ≡ out → n′ ≡ n → to′ ≡ to → Packing s out₀ at out′ u n′ to′ i
   packing-kept out′ n′ to′ e f g = rw (e, f, g) p
 
-  pub packing-end : length s ≤ i → overlay out₀ at (pack s) ≡ overlay out to (bytesOf ((n + 7) / 8) (bitsOf n u ++ ones 7))
-  packing-end h = p .whole ∙ ap (overlay out to) (remainder-end n u s i h)
+  -- what is left does not fit
+  pub packing-longer : (end : ℕ) → to ≤ end → end - to < (n + codesSize (drop i s) + 7) / 8
+      → (Longer ≡ packedIn s at end) × PackedOver s at end out₀ out
+  packing-longer end h l =
+      let k : end < at + packedSize s = omega (arith, p .room) in
+      (longer-in s at end k, longer-over s out₀ out (p .bytes) at end k (omega (arith, p .place)) (p .stands))
 
-  pub packing-place : length s ≤ i → at + packedSize s ≡ to + (n + 7) / 8
-  packing-place h = omega (arith, p .room, codesSize-past s i h)
+  -- no code is left
+  module _ (h : length s ≤ i) where
+    pub packing-rest : (end : ℕ) → to ≤ end → end - to < (n + 7) / 8 → (Longer ≡ packedIn s at end) × PackedOver s at end out₀ out
+    packing-rest end b l = packing-longer end b (omega (arith, codesSize-past s i h))
 
-pub stored-fits : (i : ℕ) → i < 257 → stored i / 32 < 2 ^ (stored i % 32)
-stored-fits i h = rw (stored-size i, stored-value i) (code-fit i h .value)
+    pub packing-ends : (end : ℕ) (out′ : List ℕ) → to ≤ end → (n + 7) / 8 ≤ end - to
+        → out′ ≡ overlay out to (bytesOf ((n + 7) / 8) (bitsOf n u ++ ones 7))
+        → (Ends (to + (n + 7) / 8) ≡ packedIn s at end) × PackedOver s at end out₀ out′
+    unfolding packedIn
+    packing-ends end out′ b l e =
+        let k : at + packedSize s ≡ to + (n + 7) / 8 = omega (arith, p .room, codesSize-past s i h) in
+        let f : at + packedSize s ≤ end = omega arith in
+        let rest : List ℕ = bytesOf ((n + 7) / 8) (bitsOf n u ++ ones 7) in
+        let w : pack s ≡ p .bytes ++ rest = p .whole ∙ ap (λ (xs : List ℕ). p .bytes ++ xs) (remainder-end n u s i h) in (
+          ap Ends (sym k) ∙ sym (pick-true (leb (at + packedSize s) end) (Ends (at + packedSize s)) Longer (le-leb (at + packedSize s) end f)),
+          record {
+            fits = λ _. e ∙ added rest ∙ ap (overlay out₀ at) (sym w);
+            longer = λ q. absurd (omega arith);
+          },
+        )

@@ -2,4 +2,5 @@
 pub mod Codes
 pub mod Bits
 pub mod Packing
-pub mod Stored
+pub mod Sizes
+pub mod Within

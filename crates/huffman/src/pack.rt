@@ -5,10 +5,19 @@ ghost use mathlib.Core.List.{_++_};
 ghost use lib.ListN.{length};
 ghost use Rattle.memory.specs.Bytes.{overlay};
 ghost use Rattle.huffman.specs.Bits.{bitsOf, bytesOf, ones};
-ghost use Rattle.huffman.specs.Packing.{packedSize, pack};
+ghost use Rattle.huffman.specs.Packing.{packedSize};
+ghost use Rattle.huffman.specs.Within.{packedIn, PackedOver};
 use crate::bits::push;
 use crate::bits::put_word;
 use crate::code::code;
+use crate::code::size;
+use crate::code_sizes::code_size;
+
+// What packing within an end comes to: the place after the packed bytes, or that these would run past the end.
+pub enum Packed {
+    Ends(usize),
+    Longer,
+}
 
 // How many bytes `s` takes packed.
 pub fn packed_size(s: &[u8]) -> usize
@@ -18,49 +27,69 @@ pub fn packed_size(s: &[u8]) -> usize
     let mut bits: u64 = 0;
     let mut i: usize = 0;
     while i < s.len() {
-        bits += code(s[i]) % 32;
+        bits += code_size(s[i]);
         i += 1;
     }
     ((bits + 7) / 8) as usize
 }
 
-// Writes `s` packed from the place `at` on, and answers the place after it. Bits wait in `u` until they are a word.
-pub fn pack(s: &[u8], out: &mut [u8], at: usize) -> usize
-    requires { ⌜ at + packedSize (now s) ≤ length (now out) ⌝ }
-    ensures { λ r. ⌜ r ≡ at + packedSize (now (s .entry)) ⌝ }
-    ensures { λ _. ⌜ now (out .exit) ≡ overlay (now (out .entry)) at (pack (now (s .entry))) ⌝ }
+// Writes `s` packed from the place `at` on, if that ends at the place `end` or before. Bits wait in `u` until they are a word. The first word without room ends
+// it, and what was written up to there stays.
+pub fn pack(s: &[u8], out: &mut [u8], at: usize, end: usize) -> Packed
+    requires { ⌜ end ≤ length (now out) ⌝ }
+    ensures { λ r. ⌜ r ≡ packedIn (now (s .entry)) at end ⌝ }
+    ensures { λ _. ⌜ PackedOver (now (s .entry)) at end (now (out .entry)) (now (out .exit)) ⌝ }
 {
+    if end < at {
+        return Packed::Longer;
+    }
     let mut u: u64 = 0;
     let mut n: u64 = 0;
     let mut to = at;
     let mut i: usize = 0;
     while i < s.len() {
-        let c = code(s[i]);
-        u = push(u, c / 32, c % 32);
-        n += c % 32;
+        let x = s[i];
+        let bits = size(x) as u64;
+        u = push(u, code(x), bits);
+        n += bits;
         if 32 <= n {
             n -= 32;
+            if end - to < 4 {
+                return Packed::Longer;
+            }
             put_word(out, to, u >> n);
             to += 4;
         }
         i += 1;
     }
-    put_rest(u, n, out, to)
+    let rest = ((n + 7) / 8) as usize;
+    if end - to < rest {
+        return Packed::Longer;
+    }
+    put_rest(u, n, out, to);
+    Packed::Ends(to + rest)
 }
 
-// Writes the `n` bits that are left, padded with ones to whole bytes, and answers the place after them.
-fn put_rest(u: u64, n: u64, out: &mut [u8], at: usize) -> usize
+// Writes the `n` bits that are left, padded with ones to whole bytes. These are at most four: the compiler would prepare a loop for many.
+fn put_rest(u: u64, n: u64, out: &mut [u8], at: usize)
     requires { ⌜ (n < 32) × (at + (n + 7) / 8 ≤ length (now out)) ⌝ }
-    ensures { λ r. ⌜ r ≡ at + (n + 7) / 8 ⌝ }
     ensures { λ _. ⌜ now (out .exit) ≡ overlay (now (out .entry)) at (bytesOf ((n + 7) / 8) (bitsOf n u ++ ones 7)) ⌝ }
 {
     let rest = push(u, 127, 7);
-    let mut left = n + 7;
-    let mut to = at;
-    while 8 <= left {
-        left -= 8;
-        out[to] = ((rest >> left) % 256) as u8;
-        to += 1;
+    if n == 0 {
+        return;
     }
-    to
+    out[at] = ((rest >> (n - 1)) % 256) as u8;
+    if n <= 8 {
+        return;
+    }
+    out[at + 1] = ((rest >> (n - 9)) % 256) as u8;
+    if n <= 16 {
+        return;
+    }
+    out[at + 2] = ((rest >> (n - 17)) % 256) as u8;
+    if n <= 24 {
+        return;
+    }
+    out[at + 3] = ((rest >> (n - 25)) % 256) as u8;
 }

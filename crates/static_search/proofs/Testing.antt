@@ -1,5 +1,5 @@
 -- One entry of the static table compared with a name or a value: lengths that differ decide, and else the bytes at the place of a name do.
-use mathlib.Core.Path.{_≡_, sym, ap, ap₂, _∙_}
+use mathlib.Core.Path.{_≡_, refl, sym, ap, ap₂, _∙_}
 use mathlib.Core.Bool.{false}
 use Prim.Native.Nat.{ℕ, _+_, _≤_}
 use native.Mathlib.Omega.{arith}
@@ -22,13 +22,16 @@ same-part text at n x y e b l =
     sameAt-same n text at y 0 b (omega arith) ∙ ap₂ same e (ap (part y 0) l ∙ part-all y)
 
 module _ {text : List ℕ} {p : StaticPlace} (i : ℕ) (s : Stands text p (entryAt i)) (name : List ℕ) where
-  pub name-same : p .name ≡ length name → sameAt (p .name) text (p .start) name 0 ≡ hasName i name
-  unfolding hasName
-  name-same l = same-part text (p .start) (p .name) (staticName i) name (s .name) (omega (arith, s .end)) l
+  module _ (l : length (staticName i) ≡ length name) where
+    name-size : p .name ≡ length name
+    name-size = sym (s .name-length) ∙ l
 
-  pub name-other : (p .name ≡ length name → ⊥) → false ≡ hasName i name
-  unfolding hasName
-  name-other f = sym (length-same (staticName i) name (λ e. f (sym (s .name-length) ∙ e)))
+    pub name-end : p .start + length name ≤ length text
+    name-end = omega (arith, s .end, name-size)
+
+    pub name-same : sameAt (length name) text (p .start) name 0 ≡ hasName i name
+    unfolding hasName
+    name-same = same-part text (p .start) (length name) (staticName i) name (ap (part text (p .start)) (sym name-size) ∙ s .name) name-end refl
 
 module _ {text : List ℕ} {p : StaticPlace} (i : ℕ) (s : Stands text p (entryAt i)) (value : List ℕ) where
   pub value-other : (p .value ≡ length value → ⊥) → false ≡ hasValue i value

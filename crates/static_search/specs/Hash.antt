@@ -8,20 +8,26 @@ use Rattle.memory.specs.Choice.{pick}
 use Rattle.memory.specs.Compare.{same}
 use Rattle.statics.specs.Table.{staticName, staticValue}
 use Rattle.static_search.specs.Search.{lowestStatic}
+use Rattle.static_search.specs.declared.hashes.Hashed.{Hashed}
 use Rattle.static_search.specs.declared.search.StaticFound.{StaticFound}
 use Rattle.static_search.specs.declared.search.StaticFound.the-variants.{At, Nothing}
 
 -- a name's length, first and last byte
 unfoldable pub hashOf : List ℕ → ℕ
-hashOf name = (length name % 256 + 16 * getD name 0 0 + 8 * getD name (length name - 1) 0) % 256
+hashOf name = (121 * (length name % 128) + 2 * getD name 0 0 + 33 * getD name (length name - 1) 0) % 128
 
-abbrev pub indexOf : StaticFound → ℕ
-indexOf (At j) = j .value
-indexOf Nothing = 1
+-- the entry that was found and how many bytes its name has, or the first and 0
+abbrev pub hashedAt : StaticFound → Hashed
+hashedAt (At j) = record { index = j; length = length (staticName (j .value)) }
+hashedAt Nothing = record { index = record { value = 1 }; length = 0 }
 
--- the lowest entry whose name has this hash, or the first
-unfoldable pub hashedOf : ℕ → ℕ
-hashedOf hash = indexOf (lowestStatic (λ k. eqb (hashOf (staticName k)) hash) 61 1)
+-- the lowest entry whose name has this hash
+unfoldable pub hashedOf : ℕ → Hashed
+hashedOf hash = hashedAt (lowestStatic (λ k. eqb (hashOf (staticName k)) hash) 61 1)
+
+-- the same as the table of the program has it: one number
+unfoldable pub storedOf : ℕ → ℕ
+storedOf hash = 256 * hashedOf hash .length + hashedOf hash .index .value
 
 -- the last entry with the name of the entry i, where i is the lowest with it
 unfoldable pub lastOf : ℕ → ℕ

@@ -36,21 +36,18 @@ fn same_ends(a: Ends, b: Ends) -> bool
     a.last == b.last
 }
 
-// Has this entry this name? The static text is laid on the stack where it is made, so only for a long name.
+// Has this entry, whose name has as many bytes, this name? The static text is laid on the stack where it is made, so only for a long name.
 fn has_name(index: TableIndex, name: &[u8]) -> bool
     requires { ⌜ (1 ≤ index .value) × (index .value ≤ lastStatic) ⌝ }
+    requires { ⌜ length (staticName (index .value)) ≡ length (now name) ⌝ }
     ensures { λ r. ⌜ r ≡ hasName (index .value) (now (name .entry)) ⌝ }
 {
-    let p = static_place(index);
-    let n = p.name as usize;
-    if n != name.len() {
-        return false;
-    }
+    let n = name.len();
     if n <= TWO_WORDS {
         return same_ends(name_ends(index), ends_of(name));
     }
     let text = static_text();
-    same(&text, p.start as usize, name, 0, n)
+    same(&text, static_place(index).start as usize, name, 0, n)
 }
 
 // Has this entry this value? No static value has more than 16 bytes.
@@ -73,7 +70,11 @@ pub fn find_name(name: &[u8]) -> StaticFound
     if name.len() == 0 {
         return StaticFound::Nothing;
     }
-    let index = hashed_entry(name_hash(name));
+    let hashed = hashed_entry(name_hash(name));
+    let index = hashed.index;
+    if hashed.length != name.len() {
+        return StaticFound::Nothing;
+    }
     if !has_name(index, name) {
         return StaticFound::Nothing;
     }

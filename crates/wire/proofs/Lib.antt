@@ -1,6 +1,7 @@
 pub mod Strings
 pub mod ShortStrings
 pub mod TextWriting
+pub mod TextRoom
 pub mod TextBounds
 pub mod TextBack
 pub mod TextKept

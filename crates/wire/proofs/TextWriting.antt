@@ -124,13 +124,6 @@ module _ (xs : List ℕ) where
       (int-bytes-small 7 128 (packedSize xs) (omega arith) (omega (arith, packs-shorter e))) (small-pack xs)))
       (λ e. rw (plain-wire e) (small-append (intWire 7 0 (length xs)) xs (int-bytes-small 7 0 (length xs) (omega arith) (omega arith)) k))
 
-  -- the length, then the bytes
-  pub string-written : (top v : ℕ) (ys : List ℕ) → stringWire xs ≡ intWire 7 top v ++ ys → (out : List ℕ) (at : ℕ) (mid last : List ℕ) (next end : ℕ)
-      → next ≡ at + length (intWire 7 top v) → mid ≡ overlay out at (intWire 7 top v) → end ≡ next + length ys → last ≡ overlay mid next ys
-      → (end ≡ at + length (stringWire xs)) × (last ≡ overlay out at (stringWire xs))
-  string-written top v ys e out at mid last next end =
-      rw e (write-then out at (intWire 7 top v) ys mid last next end)
-
 module _ (k top : ℕ) where
   pub index-wire : (i : ℕ) → nameWire k top (Name.indexed i) ≡ intWire k top i
   unfolding nameWire

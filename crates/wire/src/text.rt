@@ -5,8 +5,10 @@ ghost use Prim.Native.Nat.{ℕ, _+_, _≤_};
 ghost use lib.ListN.{length};
 ghost use Rattle.memory.specs.Bytes.{overlay};
 ghost use Rattle.wire.specs.Text.{InString, stringAnswer, stringLength, stringBytes, plainPlace, readString, stringAfter, wireSize, stringWire, valueLimit};
+ghost use Rattle.wire.specs.Room.{plainWire, RoomMade};
 ghost use Rattle.wire.specs.Short.{shortStringAt};
 use copying::copy::copy;
+use huffman::pack::Packed;
 use huffman::pack::pack;
 use huffman::pack::packed_size;
 use integers::answer::BAD_PACKING;
@@ -195,19 +197,75 @@ pub fn wire_size(src: &[u8]) -> usize
     src.len()
 }
 
-// Writes the string `src` at the place `at`, and answers the place after it.
+// Where a string's packed bytes go, up to an end that they must not pass, and whether their length stands before them.
+struct PackedRoom {
+    start: usize,
+    end: usize,
+    counted: bool,
+}
+
+// Makes room for the packed bytes of `src`. A short string whose plain form has room is not counted: it is packed where it would stand plain, up to one byte
+// before that ends, and its length is stored afterwards. Any other is counted: where it gets shorter, its length is written, and else its room has no place.
+fn packed_room(src: &[u8], out: &mut [u8], at: usize) -> PackedRoom
+    requires { ⌜ length (now src) ≤ valueLimit ⌝ }
+    requires { ⌜ at + length (stringWire (now src)) ≤ length (now out) ⌝ }
+    ensures { λ r. ⌜ RoomMade (now (src .entry)) at (now (out .entry)) (now (out .exit)) r ⌝ }
+{
+    let n = src.len();
+    if n < WireInt::ONES7 as usize {
+        if n < out.len() - at {
+            return PackedRoom {
+                start: at + 1,
+                end: at + n,
+                counted: false,
+            };
+        }
+    }
+    let size = packed_size(src);
+    if n <= size {
+        return PackedRoom {
+            start: at + 1,
+            end: at,
+            counted: true,
+        };
+    }
+    let start = WireInt::new(size as u32).write(out, at, WireInt::PREFIX7, H_BIT as u32);
+    PackedRoom {
+        start,
+        end: start + size,
+        counted: true,
+    }
+}
+
+// Writes the string `src` plain at the place `at`, and answers the place after it.
+fn write_plain(src: &[u8], out: &mut [u8], at: usize) -> usize
+    requires { ⌜ length (now src) ≤ valueLimit ⌝ }
+    requires { ⌜ at + length (plainWire (now src)) ≤ length (now out) ⌝ }
+    ensures { λ r. ⌜ r ≡ at + length (plainWire (now (src .entry))) ⌝ }
+    ensures { λ _. ⌜ now (out .exit) ≡ overlay (now (out .entry)) at (plainWire (now (src .entry))) ⌝ }
+{
+    let n = WireInt::new(src.len() as u32);
+    let next = n.write(out, at, WireInt::PREFIX7, 0);
+    copy(src, out, next)
+}
+
+// Writes the string `src` at the place `at`, and answers the place after it. Packed bytes that have no room are written over. `pack` is called in one place, so
+// that the compiler puts it there with its tables.
 pub fn write_string(src: &[u8], out: &mut [u8], at: usize) -> usize
     requires { ⌜ length (now src) ≤ valueLimit ⌝ }
     requires { ⌜ at + length (stringWire (now src)) ≤ length (now out) ⌝ }
     ensures { λ r. ⌜ r ≡ at + length (stringWire (now (src .entry))) ⌝ }
     ensures { λ _. ⌜ now (out .exit) ≡ overlay (now (out .entry)) at (stringWire (now (src .entry))) ⌝ }
 {
-    let size = wire_size(src);
-    let n = WireInt::new(size as u32);
-    if size < src.len() {
-        let next = n.write(out, at, WireInt::PREFIX7, H_BIT as u32);
-        return pack(src, out, next);
+    let room = packed_room(src, out, at);
+    let start = room.start;
+    let r = pack(src, out, start, room.end);
+    let Packed::Ends(next) = r else {
+        return write_plain(src, out, at);
+    };
+    if room.counted {
+        return next;
     }
-    let next = n.write(out, at, WireInt::PREFIX7, 0);
-    copy(src, out, next)
+    out[at] = H_BIT + (next - start) as u8;
+    next
 }

@@ -1,6 +1,6 @@
 -- `huffman::pack::packed_size` adds the sizes of the codes. The invariant: the sum, with the codes that are left, is the whole.
-use Prim.Native.Nat.{ℕ, _+_, _-_, _%_, _≤_}
-use mathlib.Core.Path.{_≡_, ap, _∙_}
+use Prim.Native.Nat.{_+_, _-_, _≤_}
+use mathlib.Core.Path.{_≡_}
 use native.Mathlib.Omega.{arith}
 use native.Mathlib.Nat.{zero-add}
 use borrow.Author.Needs.{needs}
@@ -8,7 +8,7 @@ use lib.ListN.{length, getD, drop}
 use Rattle.huffman.specs.Codes.{codeOf}
 use Rattle.huffman.specs.Packing.{codesSize, packedSize}
 use Rattle.huffman.proofs.Packs.{codesSize-most}
-use Rattle.huffman.proofs.Writing.{stored-size, codesSize-next, codesSize-past}
+use Rattle.huffman.proofs.Writing.{codesSize-next, codesSize-past}
 use Rattle.huffman.proofs.pack.packed_size.Statement.{statement}
 use Rattle.huffman.proofs.pack.packed_size.Tie as tie
 
@@ -21,14 +21,23 @@ abbrev μ-loop : tie.MeasureT-loop
 loop-holds : tie.Need-loop-holds Inv-loop μ-loop
 loop-holds c = (omega arith, zero-add (codesSize (c .before .args .s .now)))
 
-shared-slice-read-code : tie.Need-shared-slice-read-code Inv-loop μ-loop
-shared-slice-read-code c = search needs
+shared-slice-read-code-size : tie.Need-shared-slice-read-code-size Inv-loop μ-loop
+shared-slice-read-code-size c = search needs
 
-code-requires : tie.Need-code-requires Inv-loop μ-loop
-code-requires c κs = search needs
+code-size-requires : tie.Need-code-size-requires Inv-loop μ-loop
+code-size-requires c κs = search needs
+
+-- the sum with the size of a byte's code
+counted : (c : tie.After-code-size Inv-loop μ-loop)
+    → c .before .before .before .loop .bits + c .code-size .result + codesSize (drop (c .before .before .before .loop .i + 1) (c .before .before .before .before .before .args .s .now)) ≡ codesSize (c .before .before .before .before .before .args .s .now)
+counted c =
+    let l = c .before .before .before .loop in
+    let s = c .before .before .before .before .before .args .s .now in
+    let e : c .code-size .result ≡ codeOf (getD s (l .i) 0) .size = c .code-size .ensures in
+    omega (arith, l .inv .1, codesSize-next s (l .i) (c .before .before .loop-test .taken))
 
 add-bits : tie.Need-add-bits Inv-loop μ-loop
-add-bits c = omega (arith, codesSize-most (c .before .before .before .before .before .args .s .now))
+add-bits c = omega (arith, counted c, codesSize-most (c .before .before .before .before .before .args .s .now))
 
 add-i : tie.Need-add-i Inv-loop μ-loop
 add-i c = search needs
@@ -37,11 +46,7 @@ loop-less : tie.Need-loop-less Inv-loop μ-loop
 loop-less c = search needs
 
 loop-again : tie.Need-loop-again Inv-loop μ-loop
-loop-again c =
-    let l = c .before .before .before .loop in
-    let s = c .before .before .before .before .before .args .s .now in
-    let e : c .code .result % 32 ≡ codeOf (getD s (l .i) 0) .size = ap (λ (x : ℕ). x % 32) (c .code .ensures) ∙ stored-size (getD s (l .i) 0) in
-    (omega arith, omega (arith, codesSize-next s (l .i) (c .before .before .loop-test .taken)))
+loop-again c = (omega arith, counted c)
 
 add-result : tie.Need-add-result Inv-loop μ-loop
 add-result c = omega (arith, codesSize-most (c .before .before .before .args .s .now))
@@ -50,8 +55,7 @@ returns : tie.Need-returns Inv-loop μ-loop
 unfolding packedSize
 returns c =
     let l = c .before .loop in
-    let s = c .before .before .before .args .s .now in
-    omega (arith, codesSize-past s (l .i) (c .loop-test .left), l .inv .1)
+    omega (arith, codesSize-past (c .before .before .before .args .s .now) (l .i) (c .loop-test .left), l .inv .1)
 
 pub packed-size-spec : {M : Type 1} → statement M
 packed-size-spec =
@@ -60,8 +64,8 @@ packed-size-spec =
     Inv-loop
     μ-loop
     loop-holds
-    shared-slice-read-code
-    code-requires
+    shared-slice-read-code-size
+    code-size-requires
     add-bits
     add-i
     loop-less

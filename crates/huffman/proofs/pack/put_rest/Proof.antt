@@ -1,87 +1,175 @@
--- `huffman::pack::put_rest` writes what is left. The invariant: the bytes that the bits left say, written from here on, give the whole.
-use Prim.Native.Nat.{_+_, _/_, _≤_}
-use mathlib.Core.Path.{_≡_, refl, sym, ap, _∙_}
-use mathlib.Core.Bool.{Bool}
+-- `huffman::pack::put_rest` writes what is left, a byte at a time.
+use Prim.Native.Nat.{ℕ, _+_, _-_, _/_}
+use mathlib.Core.Path.{_≡_, sym, ap, _∙_}
 use native.Mathlib.Omega.{arith}
 use borrow.Author.Needs.{needs}
 use mathlib.Core.List.{List, _++_}
-use lib.ListN.{length, length-set}
+use lib.ListN.{length-set}
 use Rattle.memory.specs.Bytes.{overlay}
 use Rattle.huffman.specs.Bits.{bitsOf, bytesOf, ones}
-use Rattle.huffman.proofs.Writing.{last-byte, last-bits, no-bytes}
+use Rattle.huffman.proofs.Writing.{lastBytes, last-bytes, last-store, last-none}
 use Rattle.huffman.proofs.pack.put_rest.Statement.{statement}
 use Rattle.huffman.proofs.pack.put_rest.Tie as tie
 
-abbrev Inv-loop : tie.InvT-loop
-Inv-loop u n out₀ at rest left₀ to₀ out left to =
-    (overlay out₀ at (bytesOf ((n + 7) / 8) (bitsOf n u ++ ones 7)) ≡ overlay out to (bytesOf (left / 8) (bitsOf left rest)))
-    × (at + (n + 7) / 8 ≡ to + left / 8) × (left ≤ 38) × (length out ≡ length out₀)
+-- what is to be written, from the bits that the padding has joined
+abbrev whole : (c : tie.After-push) → List ℕ
+whole c = let a = c .before .before .args in overlay (a .out .now) (a .at) (bytesOf ((a .n + 7) / 8) (bitsOf (a .n) (a .u) ++ ones 7))
 
-abbrev μ-loop : tie.MeasureT-loop
-μ-loop u n out₀ at rest left₀ to₀ out left to = left
+rest : (c : tie.After-push) → whole c ≡ overlay (c .before .before .args .out .now) (c .before .before .args .at) (lastBytes (c .before .before .args .n + 7) (c .push .result))
+rest c = let a = c .before .before .args in ap (overlay (a .out .now) (a .at)) (last-bytes (a .n) (a .u) (c .push .result) (omega arith) (c .push .ensures))
 
-push-requires : tie.Need-push-requires Inv-loop μ-loop
+push-requires : tie.Need-push-requires
 push-requires c κs = search needs
 
-add-left : tie.Need-add-left Inv-loop μ-loop
-add-left c = search needs
+returns : tie.Need-returns
+returns c =
+    let a = c .before .before .before .args in
+    let v = c .before .push .result in
+    sym
+    (rest (c .before)
+    ∙ last-none _ (a .at) (a .n + 7) v (omega arith))
 
-loop-holds : tie.Need-loop-holds Inv-loop μ-loop
-loop-holds c =
-    let a = c .before .before .args in (
-      ap (λ (r : List Bool). overlay (a .out .now) (a .at) (bytesOf ((a .n + 7) / 8) r)) (last-bits (a .n) (a .u) (c .push .result) (omega arith) (c .push .ensures)),
-      refl,
-      omega arith,
-      refl,
-    )
+sub-out : tie.Need-sub-out
+sub-out c = search needs
 
-shr-out : tie.Need-shr-out Inv-loop μ-loop
+shr-out : tie.Need-shr-out
 shr-out c = search needs
 
-cast-out : tie.Need-cast-out Inv-loop μ-loop
+cast-out : tie.Need-cast-out
 cast-out c = search needs
 
-slice-write-out : tie.Need-slice-write-out Inv-loop μ-loop
-slice-write-out c = omega arith
+slice-write-out : tie.Need-slice-write-out
+slice-write-out c = search needs
 
-add-to : tie.Need-add-to Inv-loop μ-loop
-add-to c = search needs
-
-loop-less : tie.Need-loop-less Inv-loop μ-loop
-loop-less c = search needs
-
-loop-again : tie.Need-loop-again Inv-loop μ-loop
-loop-again c =
-    let l = c .before .loop in
-    let t = c .loop-test .taken in (
-      l .inv .0 ∙ ap (overlay (l .out) (l .to)) (last-byte (l .left) (c .before .before .push .result) t),
-      omega arith,
-      omega arith,
-      simp length-set (l .inv .3),
-    )
-
-same-length : tie.Need-same-length Inv-loop μ-loop
+same-length : tie.Need-same-length
 same-length c = search needs
 
-returns : tie.Need-returns Inv-loop μ-loop
-returns c =
-    let l = c .before .loop in
-    (omega arith, sym (l .inv .0 ∙ ap (overlay (l .out) (l .to)) (no-bytes (l .left) (c .before .before .push .result) (c .loop-test .left))))
+returns-2 : tie.Need-returns-2
+returns-2 c =
+    let a = c .before .before .before .before .args in
+    let v = c .before .before .push .result in
+    sym
+    (rest (c .before .before)
+    ∙ last-store _ (a .at) (a .at + 1) (a .n + 7) (a .n - 1) v (omega arith) (omega arith)
+    ∙ last-none _ (a .at + 1) (a .n - 1) v (omega arith))
+
+sub-out-2 : tie.Need-sub-out-2
+sub-out-2 c = search needs
+
+shr-out-2 : tie.Need-shr-out-2
+shr-out-2 c = search needs
+
+cast-out-2 : tie.Need-cast-out-2
+cast-out-2 c = search needs
+
+add-out : tie.Need-add-out
+add-out c = search needs
+
+slice-write-out-2 : tie.Need-slice-write-out-2
+slice-write-out-2 c = simp length-set (omega arith)
+
+same-length-2 : tie.Need-same-length-2
+same-length-2 c = search needs
+
+returns-3 : tie.Need-returns-3
+returns-3 c =
+    let a = c .before .before .before .before .before .args in
+    let v = c .before .before .before .push .result in
+    sym
+    (rest (c .before .before .before)
+    ∙ last-store _ (a .at) (a .at + 1) (a .n + 7) (a .n - 1) v (omega arith) (omega arith)
+    ∙ last-store _ (a .at + 1) (a .at + 2) (a .n - 1) (a .n - 9) v (omega arith) (omega arith)
+    ∙ last-none _ (a .at + 2) (a .n - 9) v (omega arith))
+
+sub-out-3 : tie.Need-sub-out-3
+sub-out-3 c = search needs
+
+shr-out-3 : tie.Need-shr-out-3
+shr-out-3 c = search needs
+
+cast-out-3 : tie.Need-cast-out-3
+cast-out-3 c = search needs
+
+add-out-2 : tie.Need-add-out-2
+add-out-2 c = search needs
+
+slice-write-out-3 : tie.Need-slice-write-out-3
+slice-write-out-3 c = simp length-set (omega arith)
+
+same-length-3 : tie.Need-same-length-3
+same-length-3 c = search needs
+
+returns-4 : tie.Need-returns-4
+returns-4 c =
+    let a = c .before .before .before .before .before .before .args in
+    let v = c .before .before .before .before .push .result in
+    sym
+    (rest (c .before .before .before .before)
+    ∙ last-store _ (a .at) (a .at + 1) (a .n + 7) (a .n - 1) v (omega arith) (omega arith)
+    ∙ last-store _ (a .at + 1) (a .at + 2) (a .n - 1) (a .n - 9) v (omega arith) (omega arith)
+    ∙ last-store _ (a .at + 2) (a .at + 3) (a .n - 9) (a .n - 17) v (omega arith) (omega arith)
+    ∙ last-none _ (a .at + 3) (a .n - 17) v (omega arith))
+
+sub-out-4 : tie.Need-sub-out-4
+sub-out-4 c = search needs
+
+shr-out-4 : tie.Need-shr-out-4
+shr-out-4 c = search needs
+
+cast-out-4 : tie.Need-cast-out-4
+cast-out-4 c = search needs
+
+add-out-3 : tie.Need-add-out-3
+add-out-3 c = search needs
+
+slice-write-out-4 : tie.Need-slice-write-out-4
+slice-write-out-4 c = simp length-set (omega arith)
+
+same-length-4 : tie.Need-same-length-4
+same-length-4 c = search needs
+
+returns-5 : tie.Need-returns-5
+returns-5 c =
+    let a = c .before .before .before .before .before .before .args in
+    let v = c .before .before .before .before .push .result in
+    sym
+    (rest (c .before .before .before .before)
+    ∙ last-store _ (a .at) (a .at + 1) (a .n + 7) (a .n - 1) v (omega arith) (omega arith)
+    ∙ last-store _ (a .at + 1) (a .at + 2) (a .n - 1) (a .n - 9) v (omega arith) (omega arith)
+    ∙ last-store _ (a .at + 2) (a .at + 3) (a .n - 9) (a .n - 17) v (omega arith) (omega arith)
+    ∙ last-store _ (a .at + 3) (a .at + 4) (a .n - 17) (a .n - 25) v (omega arith) (omega arith)
+    ∙ last-none _ (a .at + 4) (a .n - 25) v (omega arith))
 
 pub put-rest-spec : {M : Type 1} → statement M
 put-rest-spec =
     tie.close
     (tie.spec
-    Inv-loop
-    μ-loop
     push-requires
-    add-left
-    loop-holds
+    returns
+    sub-out
     shr-out
     cast-out
     slice-write-out
-    add-to
-    loop-less
-    loop-again
     same-length
-    returns)
+    returns-2
+    sub-out-2
+    shr-out-2
+    cast-out-2
+    add-out
+    slice-write-out-2
+    same-length-2
+    returns-3
+    sub-out-3
+    shr-out-3
+    cast-out-3
+    add-out-2
+    slice-write-out-3
+    same-length-3
+    returns-4
+    sub-out-4
+    shr-out-4
+    cast-out-4
+    add-out-3
+    slice-write-out-4
+    same-length-4
+    returns-5)

@@ -1,19 +1,19 @@
--- `static_search::hashes::lowest_hashed` meets its contract. In each arm the hash is a numeral, and its entry is computed. The last arm has no hash of an entry.
+-- `static_search::hashes::stored_entry` meets its contract. In each arm the hash is a numeral, and what it leaves is computed. The last arm has no hash of an entry.
 use mathlib.Core.Path.{_≡_, sym, ap}
 use Prim.Native.Nat.{ℕ}
 use Rattle.statics.specs.Table.{entries, entryAt}
 use Rattle.static_search.specs.Search.{lowestStatic}
-use Rattle.static_search.specs.Hash.{hashOf, hashedOf}
+use Rattle.static_search.specs.Hash.{hashOf, hashedOf, storedOf}
 use Rattle.static_search.proofs.Hashing.{hash-rest}
-use Rattle.static_search.proofs.hashes.lowest_hashed.Statement.{statement}
-use Rattle.static_search.proofs.hashes.lowest_hashed.Tie as tie
+use Rattle.static_search.proofs.hashes.stored_entry.Statement.{statement}
+use Rattle.static_search.proofs.hashes.stored_entry.Tie as tie
 
-arm : {i k : ℕ} → i ≡ k → hashedOf k ≡ hashedOf i
-arm e = ap hashedOf (sym e)
+arm : {i k : ℕ} → i ≡ k → storedOf k ≡ storedOf i
+arm e = ap storedOf (sym e)
 
-pub lowest-hashed-spec : {M : Type 1} → statement M
-unfolding hashedOf hashOf lowestStatic entryAt entries
-lowest-hashed-spec =
+pub stored-entry-spec : {M : Type 1} → statement M
+unfolding storedOf hashedOf hashOf lowestStatic entryAt entries
+stored-entry-spec =
     tie.close
     (tie.spec
     (λ c. arm (c .match .keys1))
