@@ -10,6 +10,7 @@
 #include "kolowrotan.h"
 #include "lists.h"
 #include "packed.h"
+#include "stack.h"
 
 /* Bytes lent past what a table needs. */
 #define BEYOND 100
@@ -279,6 +280,9 @@ int main(int count, char **arguments)
     encoder_blocks();
     packed();
     lists();
+    /* valgrind takes what a call left on its stack as undefined */
+    if (guard != 0)
+        stack();
     printf("library: %u checks, %u failures\n", checks, failures);
     return failures != 0;
 }

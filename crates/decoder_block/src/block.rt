@@ -1,7 +1,9 @@
 // The block call: 17, 11, 13, reading, 1, 12. Nothing is written before all of these have passed.
 ghost use mathlib.Core.Path.{_≡_};
 ghost use mathlib.Core.Bool.{true};
-ghost use Prim.Native.Nat.{_+_, _*_, _≤_};
+ghost use Prim.Native.Nat.{_+_, _*_, _<_, _≤_};
+ghost use lib.ListN.{length};
+ghost use Rattle.marks.specs.Marks.{cleared};
 ghost use Rattle.model.specs.Parts.{partOf};
 ghost use Rattle.state.specs.Layout.{marksPlace};
 ghost use Rattle.state.specs.DecoderState.{decoderOf};
@@ -11,6 +13,8 @@ ghost use Rattle.decoder.specs.Calls.{blockCall};
 ghost use Rattle.decoder_survey.specs.Measure.{Stands};
 ghost use Rattle.decoder_survey.specs.Passes.{surveyAnswer, ToldSurvey};
 use decoder_fields::write::write_fields;
+use decoder_short::block::Given;
+use decoder_short::block::give_short;
 use decoder_survey::measure::Survey;
 use decoder_survey::measure::survey_block;
 use integers::answer::NO_ROOM;
@@ -53,9 +57,21 @@ fn replied(survey: Survey) -> Reply
     }
 }
 
-// A block in turn: 13 and the refusals of reading, 1, 12, or its fields, and its part is finished. Stream and part become types again where the part is
-// finished: held as types through both passes they take registers from them, 166 instructions a field for 161 (machine reports, warm).
-fn give(m: &mut [u8], stream: u64, part: u64, s: &[u8], out: &mut [u8]) -> Reply
+// Finishes the part of a block that was given. Stream and part become types again here alone: held as types through the passes they take registers from
+// them, 166 instructions a field for 161 (machine reports, warm).
+fn finish(m: &mut [u8], stream: u64, part: u64)
+    requires { ⌜ (stream < 4096) × (part ≤ 1) × (1088 ≤ length (now m)) ⌝ }
+    ensures { λ _. ⌜ now (m .exit) ≡ cleared (now (m .entry)) (64 + 512 * part) stream ⌝ }
+{
+    clear(
+        m,
+        marks_place(kind_of(part)),
+        StreamNumber::new(stream as u16),
+    );
+}
+
+// A block in turn, in two passes: 13 and the refusals of reading, 1, 12, or its fields, and its part is finished.
+fn give_surveyed(m: &mut [u8], stream: u64, part: u64, s: &[u8], out: &mut [u8]) -> Reply
     requires { ⌜ Stands (now m) × (partTurn (decoderOf (now m) .finished) stream (partOf part) ≡ true) ⌝ }
     ensures { λ r. ⌜ answerOf r ≡ blockCall (now (m .entry)) stream part (now (s .entry)) (now (out .entry)) .answer ⌝ }
     ensures { λ _. ⌜ now (m .exit) ≡ blockCall (now (m .entry)) stream part (now (s .entry)) (now (out .entry)) .memory ⌝ }
@@ -69,12 +85,25 @@ fn give(m: &mut [u8], stream: u64, part: u64, s: &[u8], out: &mut [u8]) -> Reply
         return Reply::refused(NO_ROOM);
     }
     write_fields(m, s, out);
-    clear(
-        m,
-        marks_place(kind_of(part)),
-        StreamNumber::new(stream as u16),
-    );
+    finish(m, stream, part);
     replied(survey)
+}
+
+// The same, in one pass where the block is for that. Every refusal of a block is decided by the two.
+fn give(m: &mut [u8], stream: u64, part: u64, s: &[u8], out: &mut [u8]) -> Reply
+    requires { ⌜ Stands (now m) × (partTurn (decoderOf (now m) .finished) stream (partOf part) ≡ true) ⌝ }
+    ensures { λ r. ⌜ answerOf r ≡ blockCall (now (m .entry)) stream part (now (s .entry)) (now (out .entry)) .answer ⌝ }
+    ensures { λ _. ⌜ now (m .exit) ≡ blockCall (now (m .entry)) stream part (now (s .entry)) (now (out .entry)) .memory ⌝ }
+    ensures { λ _. ⌜ now (out .exit) ≡ blockCall (now (m .entry)) stream part (now (s .entry)) (now (out .entry)) .output ⌝ }
+{
+    match give_short(m, s, out) {
+        Given::Written(n) => {
+            finish(m, stream, part);
+            Reply::done(n as u32, 0)
+        }
+        Given::NoRoom => Reply::refused(NO_ROOM),
+        Given::Other => give_surveyed(m, stream, part, s, out),
+    }
 }
 
 pub fn block(m: &mut [u8], stream: u64, part: u64, s: &[u8], out: &mut [u8]) -> Reply

@@ -177,7 +177,7 @@ fn read_index(s: &[u8], at: usize) -> IndexedRead
 }
 
 // A short literal at the place `at`, up to the place `next`: from its second byte on it stands in the block as in the list.
-fn write_short(s: &[u8], at: usize, next: usize, out: &mut [u8], to: usize) -> usize
+pub fn write_short(s: &[u8], at: usize, next: usize, out: &mut [u8], to: usize) -> usize
     requires { ⌜ (at < length (now s)) × (getD (now s) at 0 < 128) × (shortLiteralAt (now s) at ≡ ShortLiteral.Ends next) ⌝ }
     requires { ⌜ to + (next - at) ≤ length (now out) ⌝ }
     ensures { λ r. ⌜ r ≡ to + length (shortForm (now (s .entry)) at next) ⌝ }

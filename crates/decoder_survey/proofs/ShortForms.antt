@@ -1,7 +1,7 @@
 -- A short literal stands in the block as its field does in the list, so its measure is known where it ends.
 -- By its two strings, one behind the other.
 use Prim.Native.Nat.{ℕ, suc, _+_, _-_, _≤_, _<_}
-use mathlib.Core.Path.{_≡_, ap, ap₂, sym, _∙_}
+use mathlib.Core.Path.{_≡_, ap, ap₂, sym, subst, _∙_}
 use native.Mathlib.Omega.{arith}
 use mathlib.Core.List.{List, _∷_, _++_}
 use lib.ListN.{length, getD}
@@ -23,12 +23,12 @@ use Rattle.blocks.specs.declared.read.RepresentationRead.the-variants.{Found}
 use Rattle.short_forms.specs.declared.short.ShortLiteral.the-variants.{Ends}
 use Rattle.short_forms.proofs.ShortReads.{ShortRead, short-literal-reads}
 use Rattle.decoder_survey.specs.declared.measure.Measured.the-variants.{Bytes}
-use Rattle.decoder_survey.specs.Measure.{fieldAt, literalAt, fieldBytes, fieldMeasured}
+use Rattle.decoder_survey.specs.Measure.{fieldAt, literalAt, IsField, fieldBytes, fieldMeasured}
 use Rattle.decoder_survey.specs.Passes.{shortForm}
 use Rattle.decoder_survey.proofs.Fields.{means-literal}
 
 -- a string whose length takes one byte has the same bytes in the list, length and all
-short-text : (s : List ℕ) (at : ℕ) (p : StringPlace) (next : ℕ) → GoodShort s at p next → textForm (stringBytes s p) ≡ part s at (suc (p .size))
+pub short-text : (s : List ℕ) (at : ℕ) (p : StringPlace) (next : ℕ) → GoodShort s at p next → textForm (stringBytes s p) ≡ part s at (suc (p .size))
 unfolding textForm
 short-text s at p next G =
     rw (plain-bytes s p (G .plain))
@@ -52,6 +52,7 @@ pub record ShortReads (m s : List ℕ) (at next : ℕ) : Type 0 where
   pub reads : readRepresentation s at ≡ Found place next
   pub past : at < next
   pub inside : next ≤ length s
+  pub meant : IsField (fieldAt m s place)
   pub bytes : fieldBytes (fieldAt m s place) ≡ shortForm s at next
   pub measure : fieldMeasured (fieldAt m s place) ≡ Bytes (next - at)
 
@@ -80,6 +81,7 @@ short-reads m s at next h low e =
       reads = R .reads;
       past = k .0;
       inside = k .1;
+      meant = subst IsField (sym d) tt;
       bytes = ap fieldBytes d ∙ form;
       measure = ap fieldMeasured d ∙ ap Bytes (ap length form ∙ short-length s at next (k .0) (k .1));
     }

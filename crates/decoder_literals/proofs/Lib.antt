@@ -1,0 +1,3 @@
+-- strings, and fields of them
+pub mod Texts
+pub mod Literals
