@@ -41,7 +41,7 @@ extern "C" {
 #endif
 
 /* The version of the library that this header belongs to: major, minor, patch. */
-#define KOLOWROTAN_VERSION "1.1.0"
+#define KOLOWROTAN_VERSION "1.2.0"
 
 /* The answers. */
 enum kolowrotan_answer {
@@ -63,11 +63,12 @@ enum kolowrotan_answer {
     KOLOWROTAN_FULL = 15,              /* all 128 places are held */
     KOLOWROTAN_BAD_FIELD_LIST = 16,    /* the field list is not in its form */
     KOLOWROTAN_NO_STATE = 17,          /* the memory forms no state of this end */
-    KOLOWROTAN_BAD_PACKING = 18        /* a packed string holds the end mark, or other padding than at most seven ones */
+    KOLOWROTAN_BAD_PACKING = 18,       /* a packed string holds the end mark, or other padding than at most seven ones */
+    KOLOWROTAN_PADDED = 19             /* an integer takes more bytes than it needs: its last group is zero and not its only one */
 };
 
 /* One more than the largest answer: as many counters as a host needs that counts answers. */
-#define KOLOWROTAN_ANSWERS 19
+#define KOLOWROTAN_ANSWERS 20
 
 /* A result is answer + 2^8 * first + 2^40 * second: these take it apart. */
 #define KOLOWROTAN_ANSWER(result) ((int)((uint64_t)(result) & 0xFFu))
@@ -124,7 +125,8 @@ uint64_t kolowrotan_decoder_start(uint8_t *memory, size_t memory_length, uint64_
 /*
  * Reads one instruction, an insert or a delete, from the front of the management bytes. First told: the bytes that it took. Call it
  * again with the rest. On 2 keep the bytes and call again when more have come.
- * Answers: 17; the first of 2, 3, 5, 13, 14, 18 met in the bytes, left to right; an insert 8, 6, 7, 15; a delete 8, 9; 0.
+ * Answers: 17; the first of 2, 3, 5, 13, 14, 18, 19 met in the bytes, left to right, at the end of an integer 3, 19, then 5, 13 or 14; an
+ * insert 8, 6, 7, 15; a delete 8, 9; 0.
  */
 uint64_t kolowrotan_decoder_read(uint8_t *memory, size_t memory_length, const uint8_t *bytes, size_t bytes_length);
 
@@ -133,7 +135,8 @@ uint64_t kolowrotan_decoder_read(uint8_t *memory, size_t memory_length, const ui
  * bytes written, on 0 alone. On 1 it is the index that the block waits for, the first in byte order, and no length: the output still holds
  * what stood there before, perhaps another block's fields. Keep the block and offer it again later. kolowrotan_fields of
  * kolowrotan_list.h takes the result and gives no field unless it is 0.
- * Answers: 17; 11; 13 a block above 16,384 bytes; the first of 2, 3, 5, 13, 18 met in the bytes, left to right; 1; 12; 0.
+ * Answers: 17; 11; 13 a block above 16,384 bytes; the first of 2, 3, 5, 13, 18, 19 met in the bytes, left to right, at the end of an
+ * integer 3, 19, then 5 or 13; 1; 12; 0.
  */
 uint64_t kolowrotan_decoder_block(uint8_t *memory, size_t memory_length, uint64_t stream, uint64_t part,
                                   const uint8_t *bytes, size_t bytes_length, uint8_t *output, size_t output_length);
@@ -195,7 +198,7 @@ uint64_t kolowrotan_encoder_block(uint8_t *memory, size_t memory_length, uint64_
 /*
  * Reads one acknowledgement from the front of the decoder's acknowledgement bytes: its entry is gone and its index is free. First
  * told: the bytes that it took. Call it again with the rest. On 2 keep the bytes and call again when more have come.
- * Answers: 17; the first of 2, 3, 5 met in the bytes, left to right; 10; 0.
+ * Answers: 17; the first of 2, 3, 5, 19 met in the bytes, left to right, at the end of the index 3, 19, then 5; 10; 0.
  */
 uint64_t kolowrotan_encoder_acknowledge(uint8_t *memory, size_t memory_length, const uint8_t *bytes, size_t bytes_length);
 

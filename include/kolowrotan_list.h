@@ -37,9 +37,10 @@ static inline const char *kolowrotan_answer_name(int answer)
         "all places held",
         "field list not in its form",
         "memory forms no state",
-        "packed string not in its form"
+        "packed string not in its form",
+        "integer not in its shortest form"
     };
-    if (answer < KOLOWROTAN_DONE || KOLOWROTAN_BAD_PACKING < answer)
+    if (answer < KOLOWROTAN_DONE || KOLOWROTAN_PADDED < answer)
         return "no answer of this library";
     return names[answer];
 }

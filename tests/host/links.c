@@ -131,6 +131,24 @@ static void refused_reads(void)
     report(&l42, 1);
     printf("freed %u\n", receiver_collect(&receiver));
 
+    begin("a number of management bytes is padded");
+    sender_insert(&sender, "turns", "2");
+    sender_manage(&sender, &frame, FRAME_ROOM);
+    memcpy(frame.bytes, "\xFF\x80", 3);
+    receiver_frame(&receiver, &frame);
+    report(&l42, 0);
+
+    begin("a number of a block is padded");
+    sender_report(&sender, &l42, 0, &frame);
+    memcpy(frame.bytes, "\xFF\x80", 3);
+    receiver_frame(&receiver, &frame);
+    report(&l42, 1);
+
+    begin("a number of an acknowledgement is padded, by a byte that comes later");
+    acknowledge(1, 0, "\x7F\x80", 2);
+    acknowledge(1, 2, "\0", 1);
+    report(&l42, 0);
+
     begin("an acknowledgement is refused");
     sender_insert(&sender, "turns", "2"); /* is never sent */
     acknowledge(1, 0, "\x7E", 1);

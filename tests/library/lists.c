@@ -18,18 +18,19 @@ static uint64_t told(int answer, size_t first)
 
 static void answer_names(void)
 {
-    for (int answer = 0; answer <= 18; answer++) {
+    for (int answer = 0; answer < KOLOWROTAN_ANSWERS; answer++) {
         check(AT, kolowrotan_answer_name(answer)[0] != 0, "an answer has no name");
         for (int other = 0; other < answer; other++)
             check(AT, strcmp(kolowrotan_answer_name(answer), kolowrotan_answer_name(other)) != 0, "two answers have one name");
-        check(AT, strcmp(kolowrotan_answer_name(answer), kolowrotan_answer_name(19)) != 0, "an answer has the name of none");
+        check(AT, strcmp(kolowrotan_answer_name(answer), kolowrotan_answer_name(KOLOWROTAN_ANSWERS)) != 0, "an answer has the name of none");
     }
     check(AT, strcmp(kolowrotan_answer_name(KOLOWROTAN_DONE), "done") == 0, "name of 0");
     check(AT, strcmp(kolowrotan_answer_name(KOLOWROTAN_HELD), "index held") == 0, "name of 6");
     check(AT, strcmp(kolowrotan_answer_name(KOLOWROTAN_NO_STATE), "memory forms no state") == 0, "name of 17");
     check(AT, strcmp(kolowrotan_answer_name(KOLOWROTAN_BAD_PACKING), "packed string not in its form") == 0, "name of 18");
+    check(AT, strcmp(kolowrotan_answer_name(KOLOWROTAN_PADDED), "integer not in its shortest form") == 0, "name of 19");
     check(AT, strcmp(kolowrotan_answer_name(-1), "no answer of this library") == 0, "name of -1");
-    check(AT, strcmp(kolowrotan_answer_name(19), "no answer of this library") == 0, "name of 19");
+    check(AT, strcmp(kolowrotan_answer_name(20), "no answer of this library") == 0, "name of 20");
     check(AT, strcmp(kolowrotan_answer_name(255), "no answer of this library") == 0, "name of 255");
 }
 

@@ -10,6 +10,7 @@
 #include "kolowrotan.h"
 #include "lists.h"
 #include "packed.h"
+#include "padded.h"
 #include "stack.h"
 
 /* Bytes lent past what a table needs. */
@@ -279,6 +280,7 @@ int main(int count, char **arguments)
     deletes();
     encoder_blocks();
     packed();
+    padded();
     lists();
     /* valgrind takes what a call left on its stack as undefined */
     if (guard != 0)

@@ -1,11 +1,11 @@
--- Which numbers representations and whole blocks are refused by: 2, 3, 5, 13, 18, along the definitions. So an answer 0 is that of a block that was read.
+-- Which numbers representations and whole blocks are refused by: 2, 3, 19, 5, 13, 18, along the definitions. So an answer 0 is that of a block that was read.
 use mathlib.Core.Path.{_≡_, refl}
 use Prim.Native.Nat.{ℕ, zero, suc}
 use mathlib.Core.List.{List, [], _∷_, _++_}
 use lib.ListN.{length, getD}
 use lib.Dec.{ltb, leb}
 use Rattle.memory.proofs.Order.{pick-both, need-both}
-use Rattle.integers.specs.Answers.{truncated, too-large, not-allowed, too-long, bad-packing}
+use Rattle.integers.specs.Answers.{truncated, too-large, padded, not-allowed, too-long, bad-packing}
 use Rattle.integers.specs.Integer.{readInt}
 use Rattle.integers.proofs.Told.{Told, One, wider, intRefusals, int-told, told-on-int}
 use Rattle.wire.specs.Text.{readString}
@@ -30,7 +30,7 @@ use Rattle.blocks.specs.declared.read.RepresentationRead.{Representation
 use Rattle.blocks.specs.declared.read.RepresentationRead.the-variants.{Found, Refused}
 
 abbrev pub blockRefusals : List ℕ
-blockRefusals = truncated ∷ too-large ∷ not-allowed ∷ too-long ∷ bad-packing ∷ []
+blockRefusals = truncated ∷ too-large ∷ padded ∷ not-allowed ∷ too-long ∷ bad-packing ∷ []
 
 abbrev pub RepresentationTold : RepresentationRead → Type 0
 RepresentationTold (Found p next) = Unit {0}

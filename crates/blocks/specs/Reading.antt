@@ -1,4 +1,4 @@
--- Reading a representation, and a whole block: "the first of 2, 3, 4, 5, 13, 14 met decides". Packed strings bring 18, and nothing gives 4.
+-- Reading a representation, and a whole block: "the first of 2, 3, 4, 5, 13, 14 met decides". Packed strings bring 18, padded integers 19, and nothing gives 4.
 use Prim.Native.Nat.{ℕ, zero, suc, _<_, _≤_}
 use mathlib.Core.List.{List, [], _∷_, _++_}
 use lib.ListN.{length, getD}

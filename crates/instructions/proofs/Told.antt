@@ -1,10 +1,10 @@
--- Which numbers the readers of instructions refuse by, along their definitions: the decoder's 2, 3, 5, 13, 14, 18, the encoder's 2, 3, 5.
+-- Which numbers the readers of instructions refuse by, along their definitions: the decoder's 2, 3, 19, 5, 13, 14, 18, the encoder's 2, 3, 19, 5.
 use Prim.Native.Nat.{ℕ}
 use mathlib.Core.List.{List, [], _∷_}
 use lib.ListN.{length, getD}
 use lib.Dec.{T, ltb, leb}
 use Rattle.memory.proofs.Order.{pick-both, need-both}
-use Rattle.integers.specs.Answers.{truncated, too-large, not-allowed, too-long, bad-stream-list, bad-packing}
+use Rattle.integers.specs.Answers.{truncated, too-large, padded, not-allowed, too-long, bad-stream-list, bad-packing}
 use Rattle.integers.specs.Integer.{readInt}
 use Rattle.integers.specs.declared.number.TableIndex.{TableIndex}
 use Rattle.integers.proofs.Told.{Told, One, covers, wider, intRefusals, int-told, told-on-int}
@@ -27,11 +27,11 @@ use Rattle.instructions.specs.declared.read.InstructionRead.{Instruction
 use Rattle.instructions.specs.declared.read.InstructionRead.the-variants.{Found, Refused}
 
 abbrev pub encoderRefusals : List ℕ
-encoderRefusals = truncated ∷ too-large ∷ not-allowed ∷ []
+encoderRefusals = truncated ∷ too-large ∷ padded ∷ not-allowed ∷ []
 
--- "the first of 2, 3, 4, 5, 13, 14 met decides"; packed strings bring 18 in place of 4
+-- "the first of 2, 3, 4, 5, 13, 14 met decides"; packed strings bring 18 in place of 4, and padded integers 19
 abbrev pub decoderRefusals : List ℕ
-decoderRefusals = truncated ∷ too-large ∷ not-allowed ∷ too-long ∷ bad-stream-list ∷ bad-packing ∷ []
+decoderRefusals = truncated ∷ too-large ∷ padded ∷ not-allowed ∷ too-long ∷ bad-stream-list ∷ bad-packing ∷ []
 
 -- an index is refused as an acknowledgement is, which is no more
 abbrev pub IndexTold : IndexRead → Type 0

@@ -8,33 +8,29 @@ use native.Mathlib.Nat.{div-add-mod', mul-add-mod-self-right, mod-eq-of-lt}
 use mathlib.Core.List.{List, [], _∷_}
 use lib.ListN.{length}
 use lib.Pow.{pow-pos}
-use borrow.Author.Tests.{le-leb}
 use Rattle.memory.specs.Bytes.{Has}
-use Rattle.integers.specs.Integer.{value, readInt, groups, finished, largest, intWire, groupWire}
+use Rattle.integers.specs.Integer.{value, readInt, groups, largest, intWire, groupWire}
 use Rattle.memory.proofs.Order.{split}
-use Rattle.integers.proofs.Groups.{groups-last, groups-more, readInt-small, readInt-groups}
+use Rattle.integers.proofs.Groups.{finished-value, groups-last, groups-more, readInt-small, readInt-groups}
 use Rattle.integers.proofs.Writing.{last-group, next-group, int-in-prefix, int-past-prefix}
 
 pub value-eq : {v v′ n n′ : ℕ} → v ≡ v′ → n ≡ n′ → value v n ≡ value v′ n′
 value-eq e d = ap₂ value e d
 
-pub fin-value : (v next : ℕ) → v ≤ largest → finished v next ≡ value v next
-fin-value v next h = simp (le-leb v largest h)
-
--- the last group
-back-last : (s : List ℕ) (n at r v w : ℕ) → r < 128 → v + r * w ≤ largest → Has s at (groupWire n r)
+-- the last group, which is not zero or is the only one
+back-last : (s : List ℕ) (n at r v w : ℕ) → r < 128 → v + r * w ≤ largest → (1 < w → 0 < r) → Has s at (groupWire n r)
     → groups (suc n) s at v w ≡ value (v + r * w) (at + length (groupWire n r))
-back-last s n at r v w h k p =
+back-last s n at r v w h k z p =
     let e = last-group n r h in
     let q : Has s at (r ∷ []) = rw e at p in
     let m : r % 128 ≡ r = omega arith in
     rw m at (groups-last s at v w (suc n) (omega arith) (q .0) r (sym (q .1)) h)
-    ∙ fin-value (v + r * w) (at + 1) k
+    ∙ finished-value r w (v + r * w) (at + 1) k z
     ∙ value-eq refl (omega (arith, ap length e))
 
 -- a group before others, from what the others give
 back-more : (s : List ℕ) (n at r v w : ℕ) → 128 ≤ r → v + r * w ≤ largest → Has s at (groupWire (suc n) r)
-    → ((at v w : ℕ) → v + r / 128 * w ≤ largest → Has s at (groupWire n (r / 128))
+    → ((at v w : ℕ) → v + r / 128 * w ≤ largest → (1 < w → 0 < r / 128) → Has s at (groupWire n (r / 128))
     → groups (suc n) s at v w ≡ value (v + r / 128 * w) (at + length (groupWire n (r / 128))))
     → groups (suc (suc n)) s at v w ≡ value (v + r * w) (at + length (groupWire (suc n) r))
 back-more s n at r v w h k p ih =
@@ -43,15 +39,15 @@ back-more s n at r v w h k p ih =
     let m : (r % 128 + 128) % 128 ≡ r % 128 = omega arith in
     let sum : v + r % 128 * w + r / 128 * (w * 128) ≡ v + r * w = omega (arith, ap (λ (x : ℕ). x * w) (div-add-mod' r 128)) in
     rw (m, sub-one) at (groups-more s at v w (suc (suc n)) (omega arith) (q .0) (r % 128 + 128) (sym (q .1)) (omega arith))
-    ∙ ih (at + 1) (v + r % 128 * w) (w * 128) (omega arith) (q .2)
+    ∙ ih (at + 1) (v + r % 128 * w) (w * 128) (omega arith) (λ l. omega arith) (q .2)
     ∙ value-eq sum (omega (arith, ap length e))
 
-pub groups-back : (s : List ℕ) (n at r v w : ℕ) → r < 128 ^ suc n → v + r * w ≤ largest → Has s at (groupWire n r)
+pub groups-back : (s : List ℕ) (n at r v w : ℕ) → r < 128 ^ suc n → v + r * w ≤ largest → (1 < w → 0 < r) → Has s at (groupWire n r)
     → groups (suc n) s at v w ≡ value (v + r * w) (at + length (groupWire n r))
-groups-back s zero at r v w h k p = back-last s zero at r v w h k p
-groups-back s (suc n) at r v w h k p =
-    split r 128 (λ l. back-last s (suc n) at r v w l k p)
-    (λ l. back-more s n at r v w l k p (λ at′ v′ w′ k′ p′. groups-back s n at′ (r / 128) v′ w′ (omega arith) k′ p′))
+groups-back s zero at r v w h k z p = back-last s zero at r v w h k z p
+groups-back s (suc n) at r v w h k z p =
+    split r 128 (λ l. back-last s (suc n) at r v w l k z p)
+    (λ l. back-more s n at r v w l k p (λ at′ v′ w′ k′ z′ p′. groups-back s n at′ (r / 128) v′ w′ (omega arith) k′ z′ p′))
 
 -- For every prefix width k, and every value up to the largest: where the bytes of v stand, v is read, with the place after them.
 pub int-back : (s : List ℕ) (k at t v : ℕ) → v ≤ largest → Has s at (intWire k (t * 2 ^ k) v)
@@ -76,5 +72,5 @@ int-back s k at t v h p = split v (2 ^ k - 1) small large
         let q : Has s at ((t * 2 ^ k + x) ∷ groupWire 3 (v - x)) = rw e at p in
         let m = low x (omega (arith, pow-pos k)) in
         rw m at (readInt-groups k s at (q .0) (t * 2 ^ k + x) (2 ^ k) (sym (q .1)) refl (rw m (omega arith)))
-        ∙ groups-back s 3 (at + 1) (v - x) x 1 (omega arith) (omega arith) (q .2)
+        ∙ groups-back s 3 (at + 1) (v - x) x 1 (omega arith) (omega arith) (λ d. omega arith) (q .2)
         ∙ value-eq (omega arith) (omega (arith, ap length e))

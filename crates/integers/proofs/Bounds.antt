@@ -10,8 +10,8 @@ use lib.ListN.{length, getD}
 use lib.Dec.{leb}
 use lib.Pow.{pow-mono}
 use borrow.Author.Tests.{leb-true}
-use Rattle.memory.proofs.Order.{split, pick-both}
-use Rattle.integers.specs.Integer.{value, readInt, groups, finished, largest}
+use Rattle.memory.proofs.Order.{split, pick-both, need-both}
+use Rattle.integers.specs.Integer.{value, readInt, groups, finished, isPadded, largest}
 use Rattle.integers.specs.declared.integer.WireInt.{WireInt}
 use Rattle.integers.specs.declared.integer.IntRead.{IntRead}
 use Rattle.integers.specs.declared.integer.IntRead.the-variants.{Value, Refused}
@@ -22,8 +22,10 @@ abbrev pub Good : List ℕ → ℕ → IntRead → Type 0
 Good s at (Value n next) = (at < next) × (next ≤ length s) × (n .value ≤ largest) × (next ≤ at + 5)
 Good s at (Refused number) = Unit {0}
 
-good-fin : (s : List ℕ) (at v next : ℕ) → at < next → next ≤ length s → next ≤ at + 5 → Good s at (finished v next)
-good-fin s at v next h k l = pick-both (Good s at) (leb v largest) (value v next) (Refused 3) (λ e. (h, k, leb-true v largest e, l)) (λ e. tt)
+good-finished : (s : List ℕ) (at b w v next : ℕ) → at < next → next ≤ length s → next ≤ at + 5 → Good s at (finished b w v next)
+good-finished s at b w v next h k l =
+    need-both (Good s at) (leb v largest) (Refused 3) _ (λ e. tt)
+    (λ e. pick-both (Good s at) (isPadded b w) (Refused 19) (value v next) (λ d. tt) (λ d. (h, k, leb-true v largest e, l)))
 
 -- groups of a number that began at the place from: there are at most four
 good-groups : (s : List ℕ) (n at v w from : ℕ) → from ≤ at → at + n ≤ from + 5 → Good s from (groups n s at v w)
@@ -32,7 +34,7 @@ good-groups s (suc n) at v w from h m =
     split at (length s)
     (λ l. split (getD s at 0) 128
     (λ k. rw (groups-last s at v w (suc n) (omega arith) l _ refl k)
-    (good-fin s from (v + getD s at 0 % 128 * w) (at + 1) (omega arith) (omega arith) (omega arith)))
+    (good-finished s from (getD s at 0) w (v + getD s at 0 % 128 * w) (at + 1) (omega arith) (omega arith) (omega arith)))
     (λ k. rw (groups-more s at v w (suc n) (omega arith) l _ refl k, sub-one)
     (good-groups s n (at + 1) (v + getD s at 0 % 128 * w) (w * 128) from (omega arith) (omega arith))))
     (λ l. rw (groups-short s at v w (suc n) (omega arith) l) tt)

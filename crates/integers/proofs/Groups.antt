@@ -1,15 +1,32 @@
--- The equations of `readInt` and `groups`, one for each way through a turn, and the bounds that keep the sums in a word.
--- By the tests along that way; only these laws unfold the two definitions.
+-- The equations of `readInt`, `groups` and `finished`, one for each way through a turn, and the bounds that keep the sums in a word.
+-- By the tests along that way; only these laws unfold the definitions.
 use mathlib.Core.Path.{_≡_, refl}
 use Prim.Native.Nat.{ℕ, zero, suc, _+_, _-_, _*_, _%_, _^_, _≤_, _<_}
 use native.Mathlib.Nat.{mul-le-mul-right, mul-le-mul-left, pow-suc, one-le-pow, not-suc-le-zero}
 use native.Mathlib.Numerals.{sub-one}
 use native.Mathlib.Omega.{arith}
+use mathlib.Core.Bool.{false}
 use mathlib.Core.List.{List}
 use lib.ListN.{length, getD}
-use borrow.Author.Tests.{lt-ltb, le-ltb}
-use Rattle.integers.specs.Integer.{readInt, groups, finished}
+use borrow.Author.Tests.{lt-ltb, le-ltb, le-leb, lt-leb, ne-eqb}
+use Rattle.memory.proofs.Order.{split}
+use Rattle.integers.specs.Integer.{value, readInt, groups, finished, isPadded, largest}
 use Rattle.integers.specs.declared.integer.IntRead.the-variants.{Value, Refused}
+
+-- a last group that is not zero, or is the only one, is not padded
+not-padded : (b w : ℕ) → (1 < w → 0 < b) → isPadded b w ≡ false
+not-padded zero w h = split 1 w (λ l. absurd (not-suc-le-zero (h l))) (λ l. le-ltb 1 w l)
+not-padded (suc b) w h = simp (ne-eqb (suc b) 0 (λ e. omega arith))
+
+module _ (b w v next : ℕ) where
+  pub finished-large : largest < v → finished b w v next ≡ Refused 3
+  finished-large h = simp (lt-leb v largest h)
+
+  pub finished-padded : v ≤ largest → b ≡ 0 → 1 < w → finished b w v next ≡ Refused 19
+  finished-padded h e l = simp (le-leb v largest h, e, lt-ltb 1 w l)
+
+  pub finished-value : v ≤ largest → (1 < w → 0 < b) → finished b w v next ≡ value v next
+  finished-value h l = simp (le-leb v largest h, not-padded b w l)
 
 module _ (s : List ℕ) (at v w : ℕ) where
   pub groups-short : (n : ℕ) → 0 < n → length s ≤ at → groups n s at v w ≡ Refused 2
@@ -18,7 +35,7 @@ module _ (s : List ℕ) (at v w : ℕ) where
   groups-short (suc n) p h = simp (le-ltb at (length s) h)
 
   pub groups-last : (n : ℕ) → 0 < n → at < length s → (b : ℕ) → b ≡ getD s at 0 → b < 128
-      → groups n s at v w ≡ finished (v + b % 128 * w) (at + 1)
+      → groups n s at v w ≡ finished b w (v + b % 128 * w) (at + 1)
   unfolding groups
   groups-last zero p h b e k = absurd (not-suc-le-zero p)
   groups-last (suc n) p h b e k = simp (lt-ltb at (length s) h, ← e, lt-ltb b 128 k)

@@ -76,7 +76,7 @@ groups-kept zero s t at v w = kept-same intNumber (Refused 3)
 groups-kept (suc n) s t at v w =
     kept-there intNumber (Refused 2) refl s t at (λ h.
     rw (byte-kept s t at h)
-    (kept-pick intNumber (ltb (getD s at 0) 128) (kept-same intNumber (finished (v + getD s at 0 % 128 * w) (at + 1)))
+    (kept-pick intNumber (ltb (getD s at 0) 128) (kept-same intNumber (finished (getD s at 0) w (v + getD s at 0 % 128 * w) (at + 1)))
     (groups-kept n s t (at + 1) (v + getD s at 0 % 128 * w) (w * 128))))
 
 pub int-kept : (k : ℕ) (s t : List ℕ) (at : ℕ) → Kept intNumber (readInt k s at) (readInt k (s ++ t) at)

@@ -3,7 +3,8 @@ pub mod Writing
 pub mod Bounds
 pub mod Back
 pub mod Lengths
-pub mod Shortest
+pub mod OneForm
+pub mod Padding
 pub mod Short
 pub mod Kept
 pub mod Vectors

@@ -13,8 +13,7 @@ use Rattle.integers.specs.declared.integer.WireInt.{WireInt}
 use Rattle.integers.specs.declared.integer.IntRead.the-variants.{Value as IntValue}
 use Rattle.integers.specs.declared.integer.ShortInt.{ShortInt}
 use Rattle.integers.specs.declared.integer.ShortInt.the-variants.{Value, Other}
-use Rattle.integers.proofs.Groups.{groups-last, readInt-small, readInt-groups}
-use Rattle.integers.proofs.Back.{fin-value}
+use Rattle.integers.proofs.Groups.{finished-value, groups-last, readInt-small, readInt-groups}
 
 module _ (k : ℕ) (s : List ℕ) (at : ℕ) where
   pub short-int-none : length s ≤ at → shortIntAt k s at ≡ Other
@@ -61,8 +60,8 @@ module _ (k : ℕ) (s : List ℕ) (at : ℕ) where
       rw (short-int-two h b (2 ^ k) refl refl l m x refl n) (
         readInt-groups k s at h b (2 ^ k) refl refl l
             ∙ groups-last s (at + 1) (b % 2 ^ k) 1 4 (omega arith) m x refl n
-            ∙ ap (λ (i : ℕ). finished i (at + 1 + 1)) v
-            ∙ fin-value (b % 2 ^ k + x) (at + 1 + 1) (omega arith),
+            ∙ ap (λ (i : ℕ). finished x 1 i (at + 1 + 1)) v
+            ∙ finished-value x 1 (b % 2 ^ k + x) (at + 1 + 1) (omega arith) (λ d. omega arith),
         λ z. absurd (omega arith),
       ))
       (λ n. rw (short-int-long h b (2 ^ k) refl refl l m x refl n) tt))

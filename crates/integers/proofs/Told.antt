@@ -1,4 +1,4 @@
--- Which numbers an integer is refused by: 2 and 3. What follows one is refused by these and by its own.
+-- Which numbers an integer is refused by: 2, 3 and 19. What follows one is refused by these and by its own.
 -- Along the definitions: a choice has what both of its ways have. Each kind of reading has its list; a shorter list goes into a longer one.
 use Prim.Native.Nat.{ℕ, zero, suc, _+_, _-_, _*_, _%_, _^_}
 use mathlib.Core.Bool.{Bool, true, false}
@@ -7,9 +7,9 @@ use lib.ListN.{length, getD}
 use lib.Dec.{T, ltb, leb, eqb}
 use borrow.Author.Tests.{eqb-true}
 use Rattle.memory.specs.Choice.{pick}
-use Rattle.memory.proofs.Order.{either, pick-both}
-use Rattle.integers.specs.Answers.{among, truncated, too-large}
-use Rattle.integers.specs.Integer.{onInt, value, largest, finished, groups, readInt}
+use Rattle.memory.proofs.Order.{either, pick-both, need-both}
+use Rattle.integers.specs.Answers.{among, truncated, too-large, padded}
+use Rattle.integers.specs.Integer.{onInt, value, largest, isPadded, finished, groups, readInt}
 use Rattle.integers.specs.declared.integer.IntRead.{IntRead}
 use Rattle.integers.specs.declared.integer.IntRead.the-variants.{Value, Refused}
 
@@ -41,16 +41,18 @@ covers ns ks = every (among ns) ks
 pub wider : (ns ks : List ℕ) → T (covers ns ks) → (m : ℕ) → One ks m → One ns m
 wider ns ks = one-passes (among ns) ks
 
--- "bytes run out", "too large or too long"
+-- "bytes run out", "too large or too long", "last group is zero, and is not its only group"
 abbrev pub intRefusals : List ℕ
-intRefusals = truncated ∷ too-large ∷ []
+intRefusals = truncated ∷ too-large ∷ padded ∷ []
 
 abbrev pub IntTold : IntRead → Type 0
 IntTold (Value n next) = Unit {0}
 IntTold (Refused m) = One intRefusals m
 
-finished-told : (v next : ℕ) → Told IntTold (finished v next)
-finished-told v next = pick-both (Told IntTold) (leb v largest) (value v next) (Refused 3) (λ e. record { told = tt }) (λ e. record { told = tt })
+finished-told : (b w v next : ℕ) → Told IntTold (finished b w v next)
+finished-told b w v next =
+    need-both (Told IntTold) (leb v largest) (Refused 3) _ (λ e. record { told = tt })
+    (λ e. pick-both (Told IntTold) (isPadded b w) (Refused 19) (value v next) (λ d. record { told = tt }) (λ d. record { told = tt }))
 
 groups-told : (n : ℕ) (s : List ℕ) (at v w : ℕ) → Told IntTold (groups n s at v w)
 unfolding groups
@@ -59,8 +61,8 @@ groups-told (suc n) s at v w =
     let b : ℕ = getD s at 0 in
     let sum : ℕ = v + b % 128 * w in
     pick-both (Told IntTold) (ltb at (length s)) _ (Refused 2)
-    (λ e. pick-both (Told IntTold) (ltb b 128) (finished sum (at + 1)) (groups n s (at + 1) sum (w * 128))
-    (λ d. finished-told sum (at + 1)) (λ d. groups-told n s (at + 1) sum (w * 128)))
+    (λ e. pick-both (Told IntTold) (ltb b 128) (finished b w sum (at + 1)) (groups n s (at + 1) sum (w * 128))
+    (λ d. finished-told b w sum (at + 1)) (λ d. groups-told n s (at + 1) sum (w * 128)))
     (λ e. record { told = tt })
 
 pub int-told : (k : ℕ) (s : List ℕ) (at : ℕ) → Told IntTold (readInt k s at)

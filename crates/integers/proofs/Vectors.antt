@@ -1,4 +1,4 @@
--- Bytes 1 to 3 of document 01, as far as they are integers, from the definitions.
+-- Bytes 1 to 3 of document 01, as far as they are integers, padded ones, and ones with a zero group that is not the last, from the definitions.
 -- By computing: each is `refl`.
 use mathlib.Core.Path.{_≡_, refl}
 use mathlib.Core.List.{[], _∷_}
@@ -33,7 +33,13 @@ Reading = (readInt 5 (0x0a ∷ []) 0 ≡ value 10 1)
     × (readInt 6 (0x7f ∷ 0x00 ∷ []) 0 ≡ value 63 2)
     × (readInt 7 (0xff ∷ 0x80 ∷ 0x80 ∷ 0x80 ∷ []) 0 ≡ Refused 2)
     × (readInt 7 (0xff ∷ 0x80 ∷ 0x80 ∷ 0x80 ∷ 0x80 ∷ []) 0 ≡ Refused 3)
+    × (readInt 7 (0xff ∷ 0x80 ∷ []) 0 ≡ Refused 2)
+    × (readInt 7 (0xff ∷ 0x80 ∷ 0x00 ∷ []) 0 ≡ Refused 19)
+    × (readInt 7 (0xff ∷ 0xff ∷ 0x00 ∷ []) 0 ≡ Refused 19)
+    × (readInt 7 (0xff ∷ 0x80 ∷ 0x80 ∷ 0x80 ∷ 0x00 ∷ []) 0 ≡ Refused 19)
+    × (readInt 7 (0xff ∷ 0x80 ∷ 0x01 ∷ []) 0 ≡ value 255 3)
+    × (readInt 7 (0xff ∷ 0x80 ∷ 0x80 ∷ 0x01 ∷ []) 0 ≡ value 16511 4)
 
 pub reading : Reading
 unfolding readInt groups
-reading = (refl, refl, refl, refl, refl, refl, refl, refl, refl, refl, refl, refl)
+reading = (refl, refl, refl, refl, refl, refl, refl, refl, refl, refl, refl, refl, refl, refl, refl, refl, refl, refl)

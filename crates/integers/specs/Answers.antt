@@ -89,6 +89,10 @@ no-state = 17
 abbrev pub bad-packing : ℕ
 bad-packing = 18
 
+-- a wire integer whose last group is zero, and is not its only group
+abbrev pub padded : ℕ
+padded = 19
+
 -- is n among these numbers?
 abbrev pub among : List ℕ → ℕ → Bool
 among [] n = false

@@ -54,3 +54,6 @@ pub const NO_STATE: u8 = 17;
 
 // A packed string holds the end mark, or other padding than at most seven ones.
 pub const BAD_PACKING: u8 = 18;
+
+// An integer's last group is zero, and is not its only group.
+pub const PADDED: u8 = 19;

@@ -3,8 +3,9 @@ ghost use mathlib.Core.Path.{_≡_};
 ghost use Prim.Native.Nat.{ℕ, _+_, _*_, _^_, _<_, _≤_};
 ghost use lib.ListN.{length};
 ghost use Rattle.memory.specs.Bytes.{overlay};
-ghost use Rattle.integers.specs.Integer.{intAnswer, readInt, groups, largest, shortIntAt, intWire, groupWire};
+ghost use Rattle.integers.specs.Integer.{intAnswer, readInt, finished, groups, largest, shortIntAt, intWire, groupWire};
 use crate::answer::DONE;
+use crate::answer::PADDED;
 use crate::answer::TOO_LARGE;
 use crate::answer::TRUNCATED;
 use crate::byte::wide;
@@ -114,6 +115,19 @@ impl WireInt {
         ShortInt::Value(Self::new(first + group), next + 1)
     }
 
+    // An integer at its end, the place `next`: its last group says `group` and weighs `weight`, and the first group weighs 1.
+    fn finish(value: u32, next: usize, group: u32, weight: u32) -> IntRead
+        ensures { λ r. ⌜ r ≡ finished group weight value next ⌝ }
+    {
+        if Self::LARGEST < value {
+            return IntRead::Refused(TOO_LARGE);
+        }
+        if group == 0 && 1 < weight {
+            return IntRead::Refused(PADDED);
+        }
+        IntRead::Value(Self::new(value), next)
+    }
+
     // The groups from the place `at` on, above the prefix's value.
     fn read_groups(s: &[u8], at: usize, first: u32) -> IntRead
         requires { ⌜ first ≤ 255 ⌝ }
@@ -131,10 +145,7 @@ impl WireInt {
             value += b % Self::GROUP * weight;
             next += 1;
             if b < Self::GROUP {
-                if value <= Self::LARGEST {
-                    return IntRead::Value(Self::new(value), next);
-                }
-                return IntRead::Refused(TOO_LARGE);
+                return Self::finish(value, next, b, weight);
             }
             weight *= Self::GROUP;
             left -= 1;

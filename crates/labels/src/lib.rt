@@ -41,7 +41,8 @@ pub fn answer_name(out: &mut [u8], t: Text, answer: u8) -> Text {
         all places held\n\
         field list not in its form\n\
         memory forms no state\n\
-        packed string not in its form\n";
+        packed string not in its form\n\
+        integer not in its shortest form\n";
     entry(out, t, table, answer as usize)
 }
 

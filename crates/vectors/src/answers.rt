@@ -46,12 +46,15 @@ pub fn answer(kind: u8, width: u8, s: &[u8]) {
     }
 }
 
-// The prefix width that a digit says: 1, 5, 6 or 7, and 8 for any other character.
+// The prefix width that a digit says: 1 to 7, and 8 for any other character.
 fn width_of(digit: u8) -> u32
     ensures { λ r. ⌜ (1 ≤ r) × (r ≤ 8) ⌝ }
 {
     match digit {
         b'1' => 1,
+        b'2' => 2,
+        b'3' => 3,
+        b'4' => 4,
         b'5' => 5,
         b'6' => 6,
         b'7' => 7,

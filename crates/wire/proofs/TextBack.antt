@@ -1,17 +1,17 @@
 -- Reading gives back the strings and names that were written, and a name's first byte keeps the bits above its prefix.
 -- By `int-back` at the length or the index, and the place of the bytes after it.
 use mathlib.Core.Path.{_≡_, refl, sym, ap, subst, _∙_}
-use mathlib.Core.Bool.{true, false}
+use mathlib.Core.Bool.{Bool, true, false}
 use Prim.Native.Nat.{ℕ, _+_, _*_, _^_, _≤_, _<_}
 use native.Mathlib.Omega.{arith}
 use mathlib.Core.List.{List, _++_}
 use lib.ListN.{length, getD, length-append}
-use Rattle.memory.specs.Bytes.{Has, part}
+use Rattle.memory.specs.Bytes.{Has, Small, part}
 use Rattle.memory.proofs.Order.{either}
 use Rattle.memory.proofs.Places.{has-left, has-right, has-end, has-part}
 use Rattle.integers.specs.Integer.{intWire}
 use Rattle.huffman.specs.Packing.{Unpacked, whole, unpack, pack, packedSize}
-use Rattle.huffman.proofs.Packs.{packed-length}
+use Rattle.huffman.proofs.Packs.{packed-length, packedSize-most}
 use Rattle.huffman.proofs.RoundTrip.{pack-unpack}
 use Rattle.wire.specs.Text.{plainPlace, textAt, stringEnd, packs, readString, stringWire, stringLength, stringBytes}
 use Rattle.wire.specs.Name.{Name, FineName, nameOf, readName, nameWire}
@@ -23,14 +23,14 @@ use Rattle.wire.specs.declared.name.NameRead.the-variants.{Found as Name
 use Rattle.integers.proofs.Back.{int-back}
 use Rattle.integers.proofs.Lengths.{first-byte}
 use Rattle.wire.proofs.Strings.{string-plain, string-packed, after-end, end-found, plain-found, name-index, name-text}
-use Rattle.wire.proofs.TextWriting.{plain-wire, packed-wire, packs-shorter, packs-bytes, literal-length-wire}
+use Rattle.wire.proofs.TextWriting.{plain-wire, packed-wire, packs-bytes, literal-length-wire}
 
 -- where the bytes of a string stand, a place with that string is read
 module _ (s : List ℕ) (at limit : ℕ) (xs : List ℕ) (h : length xs ≤ limit) (k : length xs ≤ 2047) where
-  abbrev Back : List ℕ → Type 0
-  Back bytes = (p : StringPlace) × (readString s at limit ≡ Found p (at + length bytes)) × (stringBytes s p ≡ xs) × (stringLength s p ≡ length xs)
+  abbrev Back : Bool → List ℕ → Type 0
+  Back packed bytes = (p : StringPlace) × (readString s at limit ≡ Found p (at + length bytes)) × (stringBytes s p ≡ xs) × (stringLength s p ≡ length xs) × (p .packed ≡ packed)
 
-  plain-back : Has s at (intWire 7 0 (length xs) ++ xs) → Back (intWire 7 0 (length xs) ++ xs)
+  pub plain-back : Has s at (intWire 7 0 (length xs) ++ xs) → Back false (intWire 7 0 (length xs) ++ xs)
   unfolding stringBytes stringLength textAt
   plain-back p =
       let n = length xs in
@@ -47,13 +47,14 @@ module _ (s : List ℕ) (at limit : ℕ) (xs : List ℕ) (h : length xs ≤ limi
             ∙ ap (Found (plainPlace start n)) (omega (arith, length-append bytes xs)),
         has-part s start xs rest,
         refl,
+        refl,
       )
 
-  packed-back : packs xs ≡ true → Has s at (intWire 7 128 (packedSize xs) ++ pack xs) → Back (intWire 7 128 (packedSize xs) ++ pack xs)
+  pub packed-back : Small xs → Has s at (intWire 7 128 (packedSize xs) ++ pack xs) → Back true (intWire 7 128 (packedSize xs) ++ pack xs)
   unfolding stringBytes stringLength textAt
-  packed-back e p =
+  packed-back b p =
       let n = packedSize xs in
-      let few = packs-shorter xs e in
+      let few = packedSize-most xs in
       let bytes = intWire 7 128 n in
       let q : Has s at bytes = has-left s at bytes (pack xs) p in
       let low = first-byte s 7 at 128 n q in
@@ -63,7 +64,7 @@ module _ (s : List ℕ) (at limit : ℕ) (xs : List ℕ) (h : length xs ≤ limi
       let first = has-end s at bytes (omega (arith, low .0)) q in
       let fits : start + n ≤ length s = omega (arith, has-end s start (pack xs) (omega arith) rest, l) in
       let there : part s start n ≡ pack xs = ap (part s start) (sym l) ∙ has-part s start (pack xs) rest in
-      let text : textAt true s start n ≡ whole xs = ap unpack there ∙ pack-unpack xs (packs-bytes xs e) in
+      let text : textAt true s start n ≡ whole xs = ap unpack there ∙ pack-unpack xs b in
       let u : Unpacked = textAt true s start n in (
         record { start = start; size = n; packed = true; length = length xs },
         string-packed s at limit (low .0) _ refl (record { value = n }) start (int-back s 7 at 1 n (omega (arith, few)) q) (low .1)
@@ -73,14 +74,17 @@ module _ (s : List ℕ) (at limit : ℕ) (xs : List ℕ) (h : length xs ≤ limi
             ∙ ap (Found (record { start = start; size = n; packed = true; length = length xs })) (omega (arith, length-append bytes (pack xs), l)),
         ap (λ (u : Unpacked). u .bytes) text,
         refl,
+        refl,
       )
 
   pub string-back : Has s at (stringWire xs)
       → (p : StringPlace) × (readString s at limit ≡ Found p (at + length (stringWire xs))) × (stringBytes s p ≡ xs) × (stringLength s p ≡ length xs)
   string-back p =
+      let r =
       either (packs xs)
-      (λ e. subst Back (sym (packed-wire xs e)) (packed-back e (subst (Has s at) (packed-wire xs e) p)))
-      (λ e. subst Back (sym (plain-wire xs e)) (plain-back (subst (Has s at) (plain-wire xs e) p)))
+      (λ e. subst (Back (packs xs)) (sym (packed-wire xs e)) (rw e (packed-back (packs-bytes xs e) (subst (Has s at) (packed-wire xs e) p))))
+      (λ e. subst (Back (packs xs)) (sym (plain-wire xs e)) (rw e (plain-back (subst (Has s at) (plain-wire xs e) p))))
+      in (r .0, r .1, r .2, r .3)
 
 -- where the bytes of a name stand, a place with that name is read
 pub name-back : (s : List ℕ) (k at t : ℕ) (n : Name) → FineName n → Has s at (nameWire k (t * 2 ^ k) n)

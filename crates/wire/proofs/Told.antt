@@ -1,4 +1,4 @@
--- Which numbers strings and names (2, 3, 13, 18) and stream lists (2, 3, 14) are refused by. What follows one is refused by these and by its own.
+-- Which numbers strings and names (2, 3, 19, 13, 18) and stream lists (2, 3, 19, 14) are refused by. What follows one is refused by these and by its own.
 -- Along the definitions, as for integers.
 use mathlib.Core.Bool.{Bool}
 use Prim.Native.Nat.{ℕ, zero, suc, _+_, _-_}
@@ -6,7 +6,7 @@ use mathlib.Core.List.{List, [], _∷_}
 use lib.ListN.{length}
 use lib.Dec.{ltb, leb, eqb}
 use Rattle.memory.proofs.Order.{pick-both, need-both}
-use Rattle.integers.specs.Answers.{truncated, too-large, too-long, bad-stream-list, bad-packing}
+use Rattle.integers.specs.Answers.{truncated, too-large, padded, too-long, bad-stream-list, bad-packing}
 use Rattle.integers.specs.Integer.{readInt}
 use Rattle.integers.proofs.Told.{Told, One, wider, intRefusals, int-told, told-on-int}
 use Rattle.huffman.specs.Packing.{Unpacked}
@@ -28,10 +28,10 @@ use Rattle.wire.specs.declared.stream_list.ListRead.{ListRead}
 use Rattle.wire.specs.declared.stream_list.ListRead.the-variants.{Found as ListFound, Refused as ListRefused}
 
 abbrev pub textRefusals : List ℕ
-textRefusals = truncated ∷ too-large ∷ too-long ∷ bad-packing ∷ []
+textRefusals = truncated ∷ too-large ∷ padded ∷ too-long ∷ bad-packing ∷ []
 
 abbrev pub listRefusals : List ℕ
-listRefusals = truncated ∷ too-large ∷ bad-stream-list ∷ []
+listRefusals = truncated ∷ too-large ∷ padded ∷ bad-stream-list ∷ []
 
 abbrev pub StringTold : StringRead → Type 0
 StringTold (Found p next) = Unit {0}

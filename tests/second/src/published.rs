@@ -1,7 +1,8 @@
-//! Examples that others published, run through both programs: RFC 7541's that fit the base, and document 01's ten.
+//! Examples that others published, run through both programs: RFC 7541's that fit the base, document 01's ten, and padded
+//! integers of document 02.
 use crate::library::calls::Library;
 use crate::library::compare::Bench;
-use crate::program::wire::{put_integer, Reader};
+use crate::program::wire::{put_integer, refuse, Reader, LARGEST};
 use crate::recording::{self, outcome_line, Step};
 
 /// Integers as value, prefix width and bytes. The library has widths 6, 7 and 8; the rule is one for every width.
@@ -29,6 +30,35 @@ fn integers() -> Result<usize, String> {
     Ok(INTEGERS.len())
 }
 
+/// Integers of one to four groups at every width from 1 to 8, whatever the bits above the prefix are: the form written is read, and each
+/// that has zero groups more is 19, or 3 where these are more than four.
+fn padded() -> Result<usize, String> {
+    let mut forms = 0;
+    for width in 1..=8 {
+        let ones = (1u64 << width) - 1;
+        for value in [0, 1, 0x7f, 0x80, 0x3fff, 0x4000, 0x1f_ffff, 0x20_0000, LARGEST - ones].map(|rest| ones + rest) {
+            let pattern = !ones as u8;
+            let mut bytes = Vec::new();
+            put_integer(&mut bytes, pattern, width, value);
+            for more in 0..=4 {
+                let wanted = match bytes.len() {
+                    _ if more == 0 => Ok(value),
+                    ..=5 => refuse(19),
+                    _ => refuse(3),
+                };
+                let read = Reader::new(&bytes).integer(width);
+                if read != wanted {
+                    return Err(format!("{value} with {width} bits as {bytes:02x?} is {read:?}"));
+                }
+                forms += 1;
+                *bytes.last_mut().expect("it has groups") |= 0x80;
+                bytes.push(0);
+            }
+        }
+    }
+    Ok(forms)
+}
+
 /// Runs the examples of the text through both; how many calls they are.
 fn examples(text: &str) -> Result<usize, String> {
     let mut library = Library::new();
@@ -54,7 +84,7 @@ fn examples(text: &str) -> Result<usize, String> {
 }
 
 pub fn all() -> Result<bool, String> {
-    let (integers, calls) = (integers()?, examples(EXAMPLES)?);
-    println!("published: {integers} integers and {calls} calls of published examples agree");
+    let (integers, forms, calls) = (integers()?, padded()?, examples(EXAMPLES)?);
+    println!("published: {integers} integers, {forms} forms of integers and {calls} calls of published examples agree");
     Ok(calls > 0)
 }

@@ -1,4 +1,4 @@
-//! The second program: document 01, with document 02's packed strings, written from the papers alone, in maps and vectors.
+//! The second program: document 01, with document 02's packed strings and no padded numbers, written from the papers alone, in maps and vectors.
 pub mod blocks;
 pub mod call;
 pub mod decoder;

@@ -4,7 +4,7 @@ use super::packing::{packed, unpacked};
 /// The largest integer that is read.
 pub const LARGEST: u64 = (1 << 27) - 1;
 /// The most groups of seven bits that may follow a prefix.
-const GROUPS: u32 = 4;
+const GROUPS: usize = 4;
 /// The longest name and the longest value, in bytes.
 pub const NAME_MOST: u64 = 255;
 pub const VALUE_MOST: u64 = 2047;
@@ -64,19 +64,34 @@ impl<'a> Reader<'a> {
         Ok(byte)
     }
 
-    /// An integer whose prefix is the low `width` bits of the next byte.
+    /// An integer whose prefix is the low `width` bits of the next byte. At its end 3 is judged, then 19 where it is padded.
     pub fn integer(&mut self, width: u32) -> Answer<u64> {
+        let (value, padded) = self.any_form(width)?;
+        refuse_if(padded, 19)?;
+        Ok(value)
+    }
+
+    /// The same, padded or not; whether it is: its last group is zero and is not its only group.
+    pub(super) fn any_form(&mut self, width: u32) -> Answer<(u64, bool)> {
         let ones = (1u64 << width) - 1;
-        let mut value = u64::from(self.byte()?) & ones;
-        if value < ones {
-            return Ok(value);
+        let prefix = u64::from(self.byte()?) & ones;
+        if prefix < ones {
+            return Ok((prefix, false));
         }
-        for group in 0..GROUPS {
+        let groups = self.groups()?;
+        let value = groups.iter().rev().fold(0, |value, &group| value << 7 | u64::from(group)) + ones;
+        refuse_if(value > LARGEST, 3)?;
+        Ok((value, groups.len() > 1 && groups.ends_with(&[0])))
+    }
+
+    /// The groups of seven bits behind a prefix of all ones, low group first.
+    fn groups(&mut self) -> Answer<Vec<u8>> {
+        let mut groups = Vec::new();
+        while groups.len() < GROUPS {
             let byte = self.byte()?;
-            value += u64::from(byte & 0x7f) << (7 * group);
+            groups.push(byte & 0x7f);
             if byte & 0x80 == 0 {
-                refuse_if(value > LARGEST, 3)?;
-                return Ok(value);
+                return Ok(groups);
             }
         }
         refuse(3)

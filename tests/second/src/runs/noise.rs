@@ -45,6 +45,14 @@ fn at_decoder(random: &mut Random, second: &Second) -> Call {
                     &[0xbe, 0, 0x81],
                     &[0xbe, 0, 0x81, 0x18, 0],
                     &[0xbe, 0, 0, 0x81, 0xff],
+                    &[0xff, 0x80, 0, 0, 0, 0],
+                    &[0xbe, 0xff, 0x80, 0, 0],
+                    &[0xbe, 0, 0x7f, 0x81, 0x81, 0],
+                    &[0xbe, 0, 0, 0xff, 0xff, 0],
+                    &[0x3f, 0x80, 0, 0, 0, 0, 0],
+                    &[0x3e, 0xff, 0x82, 0x9e, 0],
+                    &[0x3e, 0, 0xff, 0x80, 0],
+                    &[0x3e, 0, 0, 0, 1, 0xff, 0x80, 0],
                 ])
                 .to_vec(),
         },
@@ -62,6 +70,9 @@ fn at_decoder(random: &mut Random, second: &Second) -> Call {
                     &[0xff, 0xff, 0xff, 0xff, 0xff],
                     &[0x01, 0x82, 0x1f, 0xff],
                     &[0x01, 0x84, 0xff, 0xff, 0xff, 0xff],
+                    &[0x82, 0xff, 0x80, 0],
+                    &[0x3f, 0x80, 0x80, 0, 0],
+                    &[0x01, 0x7f, 0x80, 0x80, 0x80, 0],
                 ])
                 .to_vec(),
         ),
@@ -114,7 +125,16 @@ fn at_encoder(random: &mut Random, second: &Second) -> Call {
         8 => block(stream, part, random.pick(&[&[2][..], &[0], &[0, 1], &[0, 0x80, 0], &[0, 0xff, 0x80], &[1, 0, 0x80, 0x10]]).to_vec()),
         _ => Call::EncoderAcknowledge {
             bytes: random
-                .pick(&[&[][..], &[0x80], &[0x3e], &[0x7d], &[0x7f], &[0x7f, 0x80, 0x80, 0x80, 0x80], &[0x7f, 0xc9, 0x07]])
+                .pick(&[
+                    &[][..],
+                    &[0x80],
+                    &[0x3e],
+                    &[0x7d],
+                    &[0x7f],
+                    &[0x7f, 0x80, 0x80, 0x80, 0x80],
+                    &[0x7f, 0xc9, 0x07],
+                    &[0x7f, 0x80, 0],
+                ])
                 .to_vec(),
         },
     }

@@ -4,6 +4,8 @@ use crate::random::Random;
 
 /// Bytes whose codes have 5, 7, 8, 13 and 30 bits.
 pub const WIDTHS: &[u8; 5] = b"akX\0\n";
+/// The code of X, which has eight bits.
+pub const EIGHT_BITS: u8 = 0b1111_1100;
 
 /// The bytes of a packed string: of the text, or of one that is about as long as is allowed, in some with a fault.
 pub fn string(random: &mut Random, text: &[u8], most: u64) -> Vec<u8> {

@@ -4,7 +4,7 @@ use super::words::{Style, Words};
 use crate::program::call::Second;
 use crate::program::fields::{list_of, Field};
 use crate::program::instructions::STREAMS;
-use crate::program::wire::{LARGEST, NAME_MOST, PACKED, VALUE_MOST};
+use crate::program::wire::{put_groups, put_integer, LARGEST, NAME_MOST, PACKED, VALUE_MOST};
 use crate::random::Random;
 use crate::recording::BYTES_MOST;
 
@@ -30,109 +30,138 @@ pub fn held(second: &Second) -> [Vec<u64>; 2] {
     [decoder, encoder]
 }
 
-/// An integer in its shortest form, or padded, or with a group too many; a value above the largest where that is given.
-fn put_integer(random: &mut Random, out: &mut Vec<u8>, pattern: u8, width: u32, value: u64) {
-    let ones = (1u64 << width) - 1;
-    if value < ones {
-        out.push(pattern | value as u8);
-        return;
-    }
-    out.push(pattern | ones as u8);
-    let mut groups = Vec::new();
-    let mut rest = value - ones;
-    while rest > 0 || groups.is_empty() {
-        groups.push((rest & 0x7f) as u8);
-        rest >>= 7;
-    }
-    if random.percent(8) {
-        let padding = random.between(1, 4) as usize;
-        groups.extend(vec![0; padding]);
-    }
-    let last = groups.len() - 1;
-    out.extend(groups.iter().enumerate().map(|(place, group)| if place < last { group | 0x80 } else { *group }));
+/// Of a hundred integers in bytes that have padded ones, so many are.
+const PADDED: u64 = 20;
+
+/// Bytes that are being written for a reader. Some have padded integers, in any place.
+struct Bytes {
+    out: Vec<u8>,
+    pads: bool,
 }
 
-/// A string of which `most` bytes are allowed, plain or packed, now and then with H set over plain bytes or a length that is not its own.
-fn put_string(random: &mut Random, out: &mut Vec<u8>, text: &[u8], most: u64) {
-    let (pattern, bytes) = match random.below(50) {
-        0 => (PACKED, text.to_vec()),
-        1..=15 => (PACKED, packed::string(random, text, most)),
-        _ => (0, text.to_vec()),
-    };
-    let length = match random.below(60) {
-        0 => *random.pick(&[255, 256, 1020, 1021, 2047, 2048, 2049, 8188, 8189, LARGEST]),
-        1 => bytes.len() as u64 + 1,
-        _ => bytes.len() as u64,
-    };
-    put_integer(random, out, pattern, 7, length);
-    out.extend_from_slice(&bytes);
-}
-
-fn put_name(random: &mut Random, out: &mut Vec<u8>, pattern: u8, width: u32, held: &[u64], name: &[u8]) {
-    if random.percent(50) {
-        put_integer(random, out, pattern, width, 0);
-        put_string(random, out, name, NAME_MOST);
-    } else {
-        let index = index(random, held);
-        put_integer(random, out, pattern, width, index);
+impl Bytes {
+    fn new(random: &mut Random) -> Bytes {
+        Bytes { out: Vec::new(), pads: random.percent(10) }
     }
-}
 
-fn put_stream_list(random: &mut Random, out: &mut Vec<u8>, words: &Words) {
-    let horizon = match random.below(8) {
-        0 => *random.pick(&[63, 64, 65, 255, 4095, 4096, 4097]),
-        1 => random.below(STREAMS),
-        2..=4 => 0,
-        _ => random.below(8),
-    };
-    put_integer(random, out, 0, 8, horizon);
-    let mut count = if random.percent(60) { 0 } else { random.below(18) };
-    // Not in reports, of which recordings are made.
-    if words.style() != Style::Reports && random.percent(4) {
-        count = *random.pick(&[16, 17, 254, 255, 256, 383]);
+    /// An integer in its shortest form, or padded; a value above the largest where that is given.
+    fn integer(&mut self, random: &mut Random, pattern: u8, width: u32, value: u64) {
+        if self.pads && random.percent(PADDED) {
+            self.padded(random, pattern, width, value);
+        } else {
+            put_integer(&mut self.out, pattern, width, value);
+        }
     }
-    put_integer(random, out, 0, 8, count);
-    for _ in 0..count.min(20) {
-        let delta = match random.below(12) {
-            0 => *random.pick(&[0, 64, 254, 255, 256, 4095]),
-            _ => random.between(1, 9),
+
+    /// A padded integer, now and then with a group too many; of another value where this one takes no group.
+    fn padded(&mut self, random: &mut Random, pattern: u8, width: u32, value: u64) {
+        let ones = (1u64 << width) - 1;
+        let others = [ones, ones + 1, ones + 127, ones + 128, 300, STREAMS - 1, STREAMS, STREAMS + 1];
+        let value = if value < ones { *random.pick(&others) } else { value };
+        self.out.push(pattern | ones as u8);
+        put_groups(&mut self.out, value - ones);
+        for _ in 0..*random.pick(&[1, 1, 1, 2, 2, 3, 4]) {
+            *self.out.last_mut().expect("a prefix was written") |= 0x80;
+            self.out.push(0);
+        }
+    }
+
+    /// A string of which `most` bytes are allowed, plain or packed, now and then with H set over plain bytes or a length that is not its own.
+    fn string(&mut self, random: &mut Random, text: &[u8], most: u64) {
+        if self.pads && random.percent(PADDED) {
+            return self.padded_string(random, most);
+        }
+        let (pattern, bytes) = match random.below(50) {
+            0 => (PACKED, text.to_vec()),
+            1..=15 => (PACKED, packed::string(random, text, most)),
+            _ => (0, text.to_vec()),
         };
-        put_integer(random, out, 0, 8, delta);
+        let length = match random.below(60) {
+            0 => *random.pick(&[255, 256, 1020, 1021, 2047, 2048, 2049, 8188, 8189, LARGEST]),
+            1 => bytes.len() as u64 + 1,
+            _ => bytes.len() as u64,
+        };
+        self.integer(random, pattern, 7, length);
+        self.out.extend_from_slice(&bytes);
+    }
+
+    /// A string as long as its length says, which is padded; plain or packed, and in some too long.
+    fn padded_string(&mut self, random: &mut Random, most: u64) {
+        let length = match random.below(20) {
+            0 => *random.pick(&[most, most + 1, 4 * most]),
+            _ => *random.pick(&[127, 128, 254, 255, 256]),
+        };
+        let (pattern, byte) = *random.pick(&[(0, b'X'), (PACKED, packed::EIGHT_BITS)]);
+        self.padded(random, pattern, 7, length);
+        self.out.extend(vec![byte; length as usize]);
+    }
+
+    fn name(&mut self, random: &mut Random, pattern: u8, width: u32, held: &[u64], name: &[u8]) {
+        if random.percent(50) {
+            self.integer(random, pattern, width, 0);
+            self.string(random, name, NAME_MOST);
+        } else {
+            let index = index(random, held);
+            self.integer(random, pattern, width, index);
+        }
+    }
+
+    fn stream_list(&mut self, random: &mut Random, words: &Words) {
+        let horizon = match random.below(8) {
+            0 => *random.pick(&[63, 64, 65, 255, 4095, 4096, 4097]),
+            1 => random.below(STREAMS),
+            2..=4 => 0,
+            _ => random.below(8),
+        };
+        self.integer(random, 0, 8, horizon);
+        let mut count = if random.percent(60) { 0 } else { random.below(18) };
+        // Not in reports, of which recordings are made.
+        if words.style() != Style::Reports && random.percent(4) {
+            count = *random.pick(&[16, 17, 254, 255, 256, 383]);
+        }
+        self.integer(random, 0, 8, count);
+        for _ in 0..count.min(20) {
+            let delta = match random.below(12) {
+                0 => *random.pick(&[0, 64, 254, 255, 256, 4095]),
+                _ => random.between(1, 9),
+            };
+            self.integer(random, 0, 8, delta);
+        }
     }
 }
 
 /// An instruction for the decoder.
 pub fn instruction(random: &mut Random, held: &[u64], words: &Words) -> Vec<u8> {
-    let mut out = Vec::new();
+    let mut bytes = Bytes::new(random);
     let kind = random.below(100);
     if kind < 60 {
         let new = if random.percent(60) { random.between(62, 200) } else { index(random, held) };
-        put_integer(random, &mut out, 0x80, 7, new);
+        bytes.integer(random, 0x80, 7, new);
         let field = words.field(random);
-        put_name(random, &mut out, 0, 8, held, &field.name);
-        put_string(random, &mut out, &field.value, VALUE_MOST);
+        bytes.name(random, 0, 8, held, &field.name);
+        bytes.string(random, &field.value, VALUE_MOST);
     } else if kind < 98 {
         let index = index(random, held);
-        put_integer(random, &mut out, 0, 6, index);
-        put_stream_list(random, &mut out, words);
-        put_stream_list(random, &mut out, words);
+        bytes.integer(random, 0, 6, index);
+        bytes.stream_list(random, words);
+        bytes.stream_list(random, words);
     } else {
-        out = acknowledgement(random, held);
+        return acknowledgement(random, held);
     }
-    out
+    bytes.out
 }
 
 /// An acknowledgement for the encoder.
 pub fn acknowledgement(random: &mut Random, held: &[u64]) -> Vec<u8> {
-    let mut out = Vec::new();
+    let mut bytes = Bytes::new(random);
     let index = index(random, held);
-    put_integer(random, &mut out, 0x40, 6, index);
-    out
+    bytes.integer(random, 0x40, 6, index);
+    bytes.out
 }
 
 /// A block for the decoder.
 pub fn block(random: &mut Random, held: &[u64], words: &Words) -> Vec<u8> {
-    let mut out = Vec::new();
+    let mut bytes = Bytes::new(random);
     let fields = match random.below(300) {
         // Too long to be a block, or to be told in the lent room.
         0 => return vec![*random.pick(&[0x82, 0xbe, 0xa0]); *random.pick(&[16_383, 16_384, 16_385, 20_000])],
@@ -142,16 +171,16 @@ pub fn block(random: &mut Random, held: &[u64], words: &Words) -> Vec<u8> {
     for _ in 0..fields {
         if random.percent(50) {
             let index = if random.percent(98) { index(random, held).max(1) } else { 0 };
-            put_integer(random, &mut out, 0x80, 7, index);
+            bytes.integer(random, 0x80, 7, index);
         } else {
             let field = words.field(random);
             let never = if field.never { 0x40 } else { 0 };
-            put_name(random, &mut out, never, 6, held, &field.name);
-            put_string(random, &mut out, &field.value, VALUE_MOST);
+            bytes.name(random, never, 6, held, &field.name);
+            bytes.string(random, &field.value, VALUE_MOST);
         }
     }
-    out.truncate(BYTES_MOST);
-    out
+    bytes.out.truncate(BYTES_MOST);
+    bytes.out
 }
 
 /// A field list whose block has 16,383, 16,384 or 16,385 bytes, since nine of its values are packed: 1,797 bytes for each of their

@@ -1,13 +1,11 @@
 -- `WireInt::read_groups` gives what `groups` says. The invariant: the groups left to read, above the value so far, are the whole.
 -- The weight times 128 to the groups left is 2^28, which keeps the sums in a word.
-use Prim.Native.Nat.{ℕ, _+_, _*_, _^_, _≤_}
-use mathlib.Core.Path.{_≡_, refl, ap, sym, _∙_}
+use Prim.Native.Nat.{_+_, _*_, _^_, _≤_}
+use mathlib.Core.Path.{_≡_, refl, sym, _∙_}
 use native.Mathlib.Omega.{arith}
 use borrow.Author.Needs.{needs}
 use Rattle.integers.specs.Integer.{groups}
-use Rattle.integers.specs.declared.integer.IntRead.the-variants.{Value}
 use Rattle.integers.proofs.Groups.{groups-short, groups-last, groups-more, groups-none, weight-small, weight-next, group-small}
-use borrow.Author.Tests.{le-leb, lt-leb}
 use Rattle.integers.proofs.integer.WireInt.read_groups.Statement.{statement}
 use Rattle.integers.proofs.integer.WireInt.read_groups.Tie as tie
 
@@ -43,20 +41,14 @@ add-value c =
 add-next : tie.Need-add-next Inv-loop μ-loop
 add-next c = search needs
 
-new-requires : tie.Need-new-requires Inv-loop μ-loop
-new-requires c κs = search needs
+finish-requires : tie.Need-finish-requires Inv-loop μ-loop
+finish-requires c κs = search needs
 
 returns-2 : tie.Need-returns-2 Inv-loop μ-loop
 returns-2 c =
-    let l = c .before .before .before .before .before .before .before .loop in
-    let d = c .before .before in
-    ap (λ (v : ℕ). Value (record { value = v }) (l .next + 1)) (c .new .ensures)
-    ∙ sym (l .inv .0 ∙ groups-last _ _ _ _ _ (omega arith) (omega arith) _ (d .before .wide .ensures .0) (d .if2 .taken) ∙ simp (le-leb _ _ (c .before .if3 .taken)))
-
-returns-3 : tie.Need-returns-3 Inv-loop μ-loop
-returns-3 c =
     let l = c .before .before .before .before .before .before .loop in
-    sym (l .inv .0 ∙ groups-last _ _ _ _ _ (omega arith) (omega arith) _ (c .before .before .wide .ensures .0) (c .before .if2 .taken) ∙ simp (lt-leb _ _ (c .if3 .left)))
+    c .finish .ensures
+    ∙ sym (l .inv .0 ∙ groups-last _ _ _ _ _ (omega arith) (omega arith) _ (c .before .before .wide .ensures .0) (c .before .if2 .taken))
 
 mul-weight : tie.Need-mul-weight Inv-loop μ-loop
 mul-weight c =
@@ -78,8 +70,8 @@ loop-again c =
       omega (arith, group-small (c .before .wide .result) (l .weight)),
     )
 
-returns-4 : tie.Need-returns-4 Inv-loop μ-loop
-returns-4 c = sym (c .before .loop .inv .0 ∙ groups-none _ _ _ _ _ (omega arith))
+returns-3 : tie.Need-returns-3 Inv-loop μ-loop
+returns-3 c = sym (c .before .loop .inv .0 ∙ groups-none _ _ _ _ _ (omega arith))
 
 pub read-groups-spec : {M : Type 1} → statement M
 read-groups-spec =
@@ -94,11 +86,10 @@ read-groups-spec =
     mul-value
     add-value
     add-next
-    new-requires
+    finish-requires
     returns-2
-    returns-3
     mul-weight
     sub-left
     loop-less
     loop-again
-    returns-4)
+    returns-3)

@@ -1,0 +1,11 @@
+pub mod Stands
+pub mod Lists
+pub mod InstructionStands
+pub mod BlockStands
+pub mod FormBack
+pub mod OneInstruction
+pub mod OneBlock
+pub mod OurWriter
+pub mod PaddedPlaces
+pub mod Padded
+pub mod Claim
