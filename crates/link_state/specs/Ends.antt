@@ -9,7 +9,7 @@ use Rattle.link_state.specs.declared.events.Event.{Event}
 use Rattle.link_state.specs.declared.events.Event.the-variants.{Quiet, Started, LeftOver, CutShort, Refused}
 use Rattle.link_state.specs.declared.ends.End.{End}
 use Rattle.link_state.specs.declared.ends.Ends.{Ends}
-use Rattle.link_state.specs.Events.{refusalBreaks}
+use Rattle.link_state.specs.Events.{refusalBreaks, isFaulty}
 
 -- an end before its first start
 abbrev pub fresh : End
@@ -47,3 +47,7 @@ brokenLine a b = pick (eqb a 0) b (pick (eqb b 0) a (pick (ltb a b) a b))
 -- "a bad line breaks it at the decoder"
 abbrev pub afterBadLine : Ends → ℕ → Ends
 afterBadLine l line = record { decoder = brokenAt (l .decoder) line; encoder = l .encoder }
+
+-- "and so does a block offered to it that is refused as faulty"; "A block that is refused with 11, 12 or 17, or told to wait, breaks nothing"
+abbrev pub afterBlock : Ends → ℕ → ℕ → Ends
+afterBlock l answer line = pick (isFaulty answer) (afterBadLine l line) l

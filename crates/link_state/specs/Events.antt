@@ -1,8 +1,10 @@
--- What a call other than a block offered to the decoder does to the link (docs/RECORDINGS.md, "As the calls are made" and "Hours").
+-- What becomes of a call, and whether a refusal breaks the link (docs/RECORDINGS.md, "As the calls are made" and "Hours").
 use mathlib.Core.Bool.{Bool, true, false}
+use mathlib.Core.List.{List, [], _∷_}
 use Prim.Native.Nat.{ℕ}
 use lib.Dec.{eqb, ltb}
 use Rattle.memory.specs.Choice.{pick}
+use Rattle.integers.specs.Answers.{among}
 use Rattle.recording.specs.declared.Kind.{Kind}
 use Rattle.recording.specs.declared.Kind.the-variants.{DecoderStart, DecoderRead, DecoderBlock, DecoderEnded, DecoderCollect, DecoderHold, EncoderStart, EncoderInsert, EncoderDelete, EncoderBlock, EncoderAcknowledge}
 use Rattle.link_state.specs.declared.events.Side.{Side}
@@ -60,3 +62,7 @@ abbrev pub refusalBreaks : Role → Bool
 refusalBreaks Start = true
 refusalBreaks Read = true
 refusalBreaks Other = false
+
+-- of a block offered to the decoder: "refused as faulty, with 2, 3, 5, 13, 18 or 19"
+abbrev pub isFaulty : ℕ → Bool
+isFaulty answer = among (2 ∷ 3 ∷ 5 ∷ 13 ∷ 18 ∷ 19 ∷ []) answer

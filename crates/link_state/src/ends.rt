@@ -1,9 +1,10 @@
 // The tables of both ends, and the line at which one broke.
 ghost use mathlib.Core.Path.{_≡_};
-ghost use Rattle.link_state.specs.Ends.{fresh, oneMore, startedAnew, brokenAt, afterEvent, afterCall, afterBadLine, brokenLine};
+ghost use Rattle.link_state.specs.Ends.{fresh, oneMore, startedAnew, brokenAt, afterEvent, afterCall, afterBadLine, afterBlock, brokenLine};
 use crate::events::Event;
 use crate::events::Role;
 use crate::events::Side;
+use crate::events::is_faulty;
 use crate::events::refusal_breaks;
 
 // The number of an end's table, 0 before its first start that is done, and the line at which the link broke first at this end since, 0 where
@@ -112,6 +113,16 @@ impl Ends {
             decoder: d.broken_at(line),
             encoder: e,
         }
+    }
+
+    // Both ends after a block that was offered to the decoder and answered with this number: a faulty one breaks the link as a bad line does.
+    pub fn after_block(self, answer: u8, line: u64) -> Ends
+        ensures { λ r. ⌜ r ≡ afterBlock self answer line ⌝ }
+    {
+        if !is_faulty(answer) {
+            return self;
+        }
+        self.after_bad_line(line)
     }
 
     // The line at which the link broke, 0 where it is whole.

@@ -1,11 +1,14 @@
-// What a call other than a block offered to the decoder does to the link.
+// What becomes of a call, and whether a refusal breaks the link.
 ghost use mathlib.Core.Path.{_≡_};
-ghost use Rattle.link_state.specs.Events.{sideOf, roleOf, doneEvent, refusedEvent, eventOf, refusalBreaks};
+ghost use Rattle.link_state.specs.Events.{sideOf, roleOf, doneEvent, refusedEvent, eventOf, refusalBreaks, isFaulty};
+use integers::answer::BAD_PACKING;
+use integers::answer::DONE;
+use integers::answer::NOT_ALLOWED;
+use integers::answer::PADDED;
+use integers::answer::TOO_LARGE;
+use integers::answer::TOO_LONG;
+use integers::answer::TRUNCATED;
 use recording::Kind;
-
-const DONE: u8 = 0;
-
-const BYTES_END_TOO_EARLY: u8 = 2;
 
 // Which end a call is one of.
 pub enum Side {
@@ -87,7 +90,7 @@ fn refused_event(role: Role, answer: u8) -> Event
     match role {
         Role::Start => Event::Refused,
         Role::Read => {
-            if answer == BYTES_END_TOO_EARLY {
+            if answer == TRUNCATED {
                 return Event::CutShort;
             }
             Event::Refused
@@ -115,4 +118,16 @@ pub fn refusal_breaks(role: Role) -> bool
         Role::Read => true,
         Role::Other => false,
     }
+}
+
+// Is a block that was answered with this number faulty? Its bytes are none that an encoder writes.
+pub fn is_faulty(answer: u8) -> bool
+    ensures { λ r. ⌜ r ≡ isFaulty answer ⌝ }
+{
+    (answer == TRUNCATED)
+        | (answer == TOO_LARGE)
+        | (answer == NOT_ALLOWED)
+        | (answer == TOO_LONG)
+        | (answer == BAD_PACKING)
+        | (answer == PADDED)
 }

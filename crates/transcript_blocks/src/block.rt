@@ -63,7 +63,9 @@ fn not_done(out: &mut [u8], log: Log, o: Offer, r: Reply) -> Log {
         b"stream # %: refused #: @\n",
         [o.stream, o.part, n, n],
     );
+    let ends = log.ends;
     log.telling(Count::BlocksRefused, 1, b)
+        .with_ends(ends.after_block(r.number, o.line))
 }
 
 fn done(

@@ -106,10 +106,13 @@ pub fn falls(
     against(out, a, stream, tenths, fall)
 }
 
-// Where a machine stands, at the end.
-pub fn standing(out: &mut [u8], t: Text, machine: &[u8], s: Standing) -> Text {
+// Where a machine stands, at the end. Where a later report may be missing, these are the fewest hours that it can have.
+pub fn standing(out: &mut [u8], t: Text, machine: &[u8], s: Standing, may_miss: bool) -> Text {
     let a = filled(out, t, b"machine ", [0, 0, 0, 0]);
     let b = readable::name(out, a, machine);
     let numbers = [s.tenths as u64, s.table, s.stream, 0];
+    if may_miss {
+        return filled(out, b, b": ~ hours or more, table #, stream #\n", numbers);
+    }
     filled(out, b, b": ~ hours, table #, stream #\n", numbers)
 }

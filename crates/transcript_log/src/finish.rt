@@ -19,25 +19,31 @@ use text_io::print;
 use text_io::print::Text;
 use transcript_lines::hours::standing;
 
-fn machine(out: &mut [u8], t: Text, name: Name, s: Standing) -> Text {
+fn machine(out: &mut [u8], t: Text, name: Name, s: Standing, may_miss: bool) -> Text {
     let text = name.text();
     let n = length(&text);
-    standing(out, t, &text[..n], s)
+    standing(out, t, &text[..n], s, may_miss)
 }
 
 // The machine at a place, if there is one.
-fn kept(out: &mut [u8], t: Text, machines: &[u64; RECORDS], i: usize) -> Text {
+fn kept(out: &mut [u8], t: Text, machines: &[u64; RECORDS], i: usize, may_miss: bool) -> Text {
     if !is_kept(machines, i) {
         return t;
     }
-    machine(out, t, name_at(machines, i), standing_at(machines, i))
+    machine(
+        out,
+        t,
+        name_at(machines, i),
+        standing_at(machines, i),
+        may_miss,
+    )
 }
 
 // The machines that are kept, in the order of their first report.
-fn each_machine(out: &mut [u8], t: Text, machines: &[u64; RECORDS]) -> Text {
+fn each_machine(out: &mut [u8], t: Text, machines: &[u64; RECORDS], may_miss: bool) -> Text {
     let mut a = t;
     for i in 0..MACHINES {
-        a = kept(out, a, machines, i);
+        a = kept(out, a, machines, i, may_miss);
     }
     a
 }
@@ -65,7 +71,7 @@ pub fn finish(
 ) -> Text {
     let told = still_waiting(out, log, 0, notes);
     let t = told.text;
-    let a = each_machine(out, t, machines);
     let tally = told.tally;
+    let a = each_machine(out, t, machines, tally.may_miss_reports());
     complete(out, a, lines, tally)
 }

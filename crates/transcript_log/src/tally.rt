@@ -63,4 +63,19 @@ impl Tally {
         self.counts[k] = sum(self.counts[k], n);
         self
     }
+
+    fn has(self, count: Count) -> bool {
+        let k = place(count);
+        0 < self.counts[k]
+    }
+
+    // May a report be missing? All that `bin/gateway` takes for a fault, but for hours that fall and machines that are not kept.
+    pub fn may_miss_reports(self) -> bool {
+        self.has(Count::BadLines)
+            | self.has(Count::BlocksRefused)
+            | self.has(Count::StillWaiting)
+            | self.has(Count::CallsRefused)
+            | self.has(Count::LeftOver)
+            | self.has(Count::Unclear)
+    }
 }

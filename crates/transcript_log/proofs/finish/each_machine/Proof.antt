@@ -7,10 +7,10 @@ use Rattle.transcript_log.proofs.finish.each_machine.Statement.{stateme
 use Rattle.transcript_log.proofs.finish.each_machine.Tie as tie
 
 abbrev Inv-loop : tie.InvT-loop
-Inv-loop out₀ machines a₀ i₀ out a i = length out ≡ length out₀
+Inv-loop out₀ machines may-miss a₀ i₀ out a i = length out ≡ length out₀
 
 abbrev μ-loop : tie.MeasureT-loop
-μ-loop out₀ machines a₀ i₀ out a i = 1024 - i
+μ-loop out₀ machines may-miss a₀ i₀ out a i = 1024 - i
 
 loop-holds : tie.Need-loop-holds Inv-loop μ-loop
 loop-holds c = omega arith
