@@ -109,6 +109,20 @@ def build_calls(library):
     return program
 
 
+def build_second(library):
+    """Compiles the second program over this library; None where there is no cargo."""
+    if shutil.which("cargo") is None:
+        say("cargo is missing, which builds the second program")
+        return None
+    folder = os.path.join(OUT, "second", "library")
+    os.makedirs(folder, exist_ok=True)
+    shutil.copy(library, os.path.join(folder, "libkolowrotan.a"))
+    target = os.path.join(OUT, "second")
+    command = ["cargo", "build", "--release", "--offline", "--locked", "--quiet", "--manifest-path", "tests/second/Cargo.toml"]
+    subprocess.run(command, cwd=ROOT, check=True, env={**os.environ, "KOLOWROTAN_LIB": folder, "CARGO_TARGET_DIR": target})
+    return os.path.join(target, "release", "second")
+
+
 def first_line(command):
     """What a program says of itself, or that it is not there."""
     try:

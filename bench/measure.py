@@ -4,6 +4,7 @@ import os
 import re
 import shutil
 import subprocess
+import sys
 import tempfile
 
 COLLECTED = re.compile(r"Collected : (\d+)")
@@ -31,6 +32,26 @@ def instructions(command):
     if result.returncode != 0 or found is None:
         raise RuntimeError(" ".join(command) + ": " + result.stderr.strip())
     return int(found.group(1))
+
+
+def inclusive(command, functions):
+    """For each function how often a run of a program calls it, and all instructions of these calls; None where the program fails or calls none of one."""
+    with tempfile.TemporaryDirectory() as folder:
+        path = os.path.join(folder, "calls")
+        whole = ["valgrind", "--tool=callgrind", "--compress-strings=no", "--compress-pos=no", "--callgrind-out-file=" + path, *command]
+        result = subprocess.run(whole, capture_output=True, text=True)
+        if result.returncode != 0:
+            print(result.stdout[-1000:] + result.stderr[-1000:], file=sys.stderr)
+            return None
+        with open(path) as file:
+            lines = file.read().splitlines()
+    found = {name: [0, 0] for name in functions}
+    for callee, calls, cost in zip(lines, lines[1:], lines[2:]):
+        name = callee.removeprefix("cfn=")
+        if callee.startswith("cfn=") and name in found:
+            found[name][0] += int(calls.removeprefix("calls=").split()[0])
+            found[name][1] += int(cost.split()[-1])
+    return found if all(calls for calls, _ in found.values()) else None
 
 
 def printed(command):

@@ -4,8 +4,8 @@ import json
 import os
 import re
 
-from build import say
-from measure import Refused
+from build import build_second, say
+from measure import Refused, inclusive
 
 OURS = "kolowrotan"
 
@@ -37,7 +37,7 @@ def key(*words):
 class Run:
     """Measures what is not known yet. `earlier` has the numbers known, and those of a library before, which are shown beside."""
 
-    def __init__(self, driver, calls, earlier, only, plots):
+    def __init__(self, driver, calls, library, earlier, only, plots):
         self.driver, self.calls = driver, calls
         self.results, self.before = earlier
         self.all_names = list(driver.versions)
@@ -45,6 +45,8 @@ class Run:
         self.peers = [name for name in self.names if name != OURS]
         self.ours = OURS in self.names
         self.plots = plots
+        self.library = library
+        self.second_program = None
         self.sections = {}
 
     # ---- single numbers ----
@@ -89,6 +91,24 @@ class Run:
     def cost(self, call, place):
         """Instructions of one call."""
         return self.kept(self.call_key(call, place), lambda: self.calls.cost(call, **place), 1)
+
+    def second(self):
+        """The second program over the library that is measured, or None where it cannot be built."""
+        if self.second_program is None:
+            self.second_program = build_second(self.library)
+        return self.second_program
+
+    def whole_calls(self, title, words, functions):
+        """For each call how often the second program makes it with these words, and the instructions of all of them; None where that cannot be measured."""
+        names = {call: key("mixed", title, call) for call in functions}
+        if not all(name in self.results for name in names.values()):
+            say(title)
+            measured = self.second() and inclusive([self.second(), *words], functions.values())
+            if not measured:
+                return None
+            for call, function in functions.items():
+                self.results[names[call]] = measured[function]
+        return {call: self.results[name] for call, name in names.items()}
 
     # ---- rows with what was before ----
 

@@ -5,94 +5,20 @@ use Prim.Native.Nat.{ℕ, _+_, _*_, _-_, _/_, _%_, _≤_}
 use native.Mathlib.Omega.{arith}
 use mathlib.Core.List.{List, [], _∷_}
 use lib.Dec.{T, eqb, eqb→eq}
-use borrow.Author.Tests.{eqb-true}
+use borrow.Author.Tests.{eqb-true, eqb-false, eq-eqb, ne-eqb}
 use lib.ListN.{length}
 use Rattle.memory.specs.Compare.{same}
-use Rattle.memory.proofs.Order.{not-both}
+use Rattle.memory.specs.Choice.{pick}
+use Rattle.memory.proofs.Order.{either, pick-true, pick-false, not-both}
 use Rattle.integers.specs.declared.number.TableIndex.{TableIndex}
 use Rattle.statics.specs.Table.{Entry, entries, entryAt, staticName}
 use Rattle.static_search.specs.Search.{hasName, lowestStatic, lowestName, findName}
-use Rattle.static_search.specs.Hash.{hashOf, hashedAt, hashedOf, storedOf}
+use Rattle.static_search.specs.Hash.{hashOf, hashedAt, hashedOf, candidateOf, storedOf}
 use Rattle.static_search.specs.declared.search.StaticFound.{StaticFound}
 use Rattle.static_search.specs.declared.search.StaticFound.the-variants.{At, Nothing}
 use Rattle.statics.proofs.Arms.{NoneIn, among, not-among}
 use Rattle.statics.proofs.Places.{every, every-in}
 use Rattle.static_search.proofs.Finding.{isAt, found, has-name, name-has, name-found, name-nothing}
-
--- ---- the computed test
-
-abbrev hashed : Entry → Bool
-hashed e = isAt (findName (e .name)) (hashedOf (hashOf (e .name)) .index .value)
-
-hashed-all : T (every hashed entries)
-unfolding entries entryAt lowestName lowestStatic hasName same hashOf hashedOf
-hashed-all = tt
-
-abbrev measured : Entry → Bool
-measured e = eqb (hashedOf (hashOf (e .name)) .length) (length (e .name))
-
-measured-all : T (every measured entries)
-unfolding entries entryAt lowestStatic hashOf hashedOf
-measured-all = tt
-
--- ---- for every name
-
-is-at : (o : StaticFound) (i : ℕ) → T (isAt o i) → o ≡ At (record { value = i })
-is-at (At j) i t = ap (λ (k : ℕ). At (record { value = k })) (eqb→eq (j .value) i t)
-is-at Nothing i t = absurd t
-
-entry-hashed : (k : ℕ) → 1 ≤ k → k ≤ 61 → findName (staticName k) ≡ At (hashedOf (hashOf (staticName k)) .index)
-unfolding entryAt entries
-entry-hashed k lo hi =
-    is-at (findName (staticName k)) (hashedOf (hashOf (staticName k)) .index .value) (every-in hashed _ entries hashed-all (k - 1) (omega arith))
-
-entry-length : (k : ℕ) → 1 ≤ k → k ≤ 61 → hashedOf (hashOf (staticName k)) .length ≡ length (staticName k)
-unfolding entryAt entries
-entry-length k lo hi =
-    eqb→eq (hashedOf (hashOf (staticName k)) .length) (length (staticName k)) (every-in measured _ entries measured-all (k - 1) (omega arith))
-
-module _ (name : List ℕ) where
-  -- an entry that is found is the one that the hash leaves
-  found-hashed : (j : TableIndex) → findName name ≡ At j → j .value ≡ hashedOf (hashOf name) .index .value
-  found-hashed j e =
-      let l = name-found name 61 1 j e in
-      let h = entry-hashed (j .value) (l .low) (omega (arith, l .high)) in
-      let z : At j ≡ At (hashedOf (hashOf name) .index) = sym e ∙ (rw (l .holds) at h) in
-      cc
-
-  -- and its name is as long as the hash says
-  pub hash-length : (hashedOf (hashOf name) .length ≡ length name → ⊥) → Nothing ≡ findName name
-  hash-length f = go (findName name) refl
-    where
-      go : (o : StaticFound) → findName name ≡ o → Nothing ≡ o
-      go (At j) e =
-          let l = name-found name 61 1 j e in
-          let h = entry-length (j .value) (l .low) (omega (arith, l .high)) in
-          absurd (f (rw (l .holds) at h))
-      go Nothing e = refl
-
-  module _ (i : ℕ) (is : i ≡ hashedOf (hashOf name) .index .value) where
-    pub hash-other : hasName i name ≡ false → Nothing ≡ findName name
-    hash-other t = go (findName name) refl
-      where
-        go : (o : StaticFound) → findName name ≡ o → Nothing ≡ o
-        go (At j) e =
-            let l = name-found name 61 1 j e in
-            let same : j .value ≡ i = found-hashed j e ∙ sym is in
-            absurd (not-both (hasName i name) (name-has name i (ap staticName (sym same) ∙ l .holds)) t)
-        go Nothing e = refl
-
-    pub hash-found : 1 ≤ i → i ≤ 61 → hasName i name ≡ true → At (record { value = i }) ≡ findName name
-    hash-found lo hi t = go (findName name) refl
-      where
-        go : (o : StaticFound) → findName name ≡ o → At (record { value = i }) ≡ o
-        go (At j) e = let same : i ≡ j .value = is ∙ sym (found-hashed j e) in ap (λ (k : ℕ). At (record { value = k })) same
-        go Nothing e = absurd (name-nothing name 61 1 e i lo (omega arith) (has-name name i t))
-
-pub hash-empty : (name : List ℕ) → length name ≡ 0 → Nothing ≡ findName name
-unfolding entries entryAt lowestName lowestStatic hasName same
-hash-empty [] e = refl
-hash-empty (x ∷ xs) e = absurd (omega arith)
 
 module _ (hash : ℕ) where
   abbrev left : StaticFound
@@ -107,7 +33,7 @@ module _ (hash : ℕ) where
       go Nothing e = (omega arith, omega arith)
 
   -- a length that is not 0 is that of the entry's name
-  pub hash-named : (n : ℕ) → 1 ≤ n → hashedOf hash .length ≡ n → length (staticName (hashedOf hash .index .value)) ≡ n
+  hash-named : (n : ℕ) → 1 ≤ n → hashedOf hash .length ≡ n → length (staticName (hashedOf hash .index .value)) ≡ n
   unfolding hashedOf
   hash-named n h = go left
     where
@@ -119,6 +45,95 @@ module _ (hash : ℕ) where
   pub hash-parts : (s : ℕ) → s ≡ storedOf hash → (s % 256 ≡ hashedOf hash .index .value) × (s / 256 ≡ hashedOf hash .length)
   unfolding storedOf
   hash-parts s e = (omega (arith, hash-within), omega (arith, hash-within))
+
+-- ---- the computed test: each entry's name is found at its candidate
+
+abbrev agreed : StaticFound → StaticFound → Bool
+agreed (At i) o = isAt o (i .value)
+agreed Nothing o = false
+
+agreed-eq : (c o : StaticFound) → T (agreed c o) → c ≡ o
+agreed-eq (At i) (At j) t = sym (ap (λ (k : ℕ). At (record { value = k })) (eqb→eq (j .value) (i .value) t))
+agreed-eq (At i) Nothing t = absurd t
+agreed-eq Nothing o t = absurd t
+
+abbrev tested : Entry → Bool
+tested e = agreed (candidateOf (e .name)) (findName (e .name))
+
+tested-all : T (every tested entries)
+unfolding entries entryAt lowestName lowestStatic hasName same hashOf hashedOf candidateOf
+tested-all = tt
+
+entry-candidate : (k : ℕ) → 1 ≤ k → k ≤ 61 → candidateOf (staticName k) ≡ findName (staticName k)
+unfolding entryAt entries
+entry-candidate k lo hi = agreed-eq (candidateOf (staticName k)) (findName (staticName k)) (every-in tested _ entries tested-all (k - 1) (omega arith))
+
+-- ---- for every name
+
+module _ (name : List ℕ) where
+  -- an entry that is found is the candidate
+  pub found-candidate : (j : TableIndex) → findName name ≡ At j → candidateOf name ≡ At j
+  found-candidate j e =
+      let l = name-found name 61 1 j e in
+      (rw (l .holds) at (entry-candidate (j .value) (l .low) (omega (arith, l .high)))) ∙ e
+
+  pub candidate-empty : length name ≡ 0 → Nothing ≡ candidateOf name
+  unfolding candidateOf
+  candidate-empty e = sym (pick-true (eqb (length name) 0) Nothing _ (eq-eqb (length name) 0 e))
+
+  module _ (some : length name ≡ 0 → ⊥) where
+    candidate-hashed : candidateOf name ≡ pick (eqb (hashedOf (hashOf name) .length) (length name)) (At (hashedOf (hashOf name) .index)) Nothing
+    unfolding candidateOf
+    candidate-hashed = pick-false (eqb (length name) 0) Nothing _ (ne-eqb (length name) 0 some)
+
+    pub candidate-other : (hashedOf (hashOf name) .length ≡ length name → ⊥) → Nothing ≡ candidateOf name
+    candidate-other f = sym (candidate-hashed ∙ pick-false _ _ _ (ne-eqb (hashedOf (hashOf name) .length) (length name) f))
+
+    pub candidate-here : hashedOf (hashOf name) .length ≡ length name → At (hashedOf (hashOf name) .index) ≡ candidateOf name
+    candidate-here e = sym (candidate-hashed ∙ pick-true _ _ _ (eq-eqb (hashedOf (hashOf name) .length) (length name) e))
+
+  pub candidate-none : candidateOf name ≡ Nothing → Nothing ≡ findName name
+  candidate-none c = go (findName name) refl
+    where
+      go : (o : StaticFound) → findName name ≡ o → Nothing ≡ o
+      go (At j) e = sym c ∙ found-candidate j e
+      go Nothing e = refl
+
+  module _ (i : TableIndex) (c : candidateOf name ≡ At i) where
+    -- a candidate is an entry whose name has the right length
+    pub candidate-fits : (1 ≤ i .value) × (i .value ≤ 61) × (length (staticName (i .value)) ≡ length name)
+    candidate-fits =
+        either (eqb (length name) 0)
+        (λ z. absurd (nothing-at (candidate-empty (eqb-true _ _ z) ∙ c)))
+        (λ z. let some = eqb-false (length name) 0 z in
+        either (eqb (hashedOf (hashOf name) .length) (length name))
+        (λ h. let e = eqb-true _ _ h in
+        let same : At (hashedOf (hashOf name) .index) ≡ At i = candidate-here some e ∙ c in
+        let is : hashedOf (hashOf name) .index ≡ i = cc in
+        subst (λ (k : TableIndex). (1 ≤ k .value) × (k .value ≤ 61) × (length (staticName (k .value)) ≡ length name)) is
+        (hash-within (hashOf name) .0, hash-within (hashOf name) .1, hash-named (hashOf name) (length name) (omega arith) e))
+        (λ h. absurd (nothing-at (candidate-other some (eqb-false _ _ h) ∙ c))))
+      where
+        nothing-at : Nothing ≡ At i → ⊥
+        nothing-at d = let z : _≡_ {A = ℕ} 0 1 = cc in omega arith
+
+    pub candidate-not : hasName (i .value) name ≡ false → Nothing ≡ findName name
+    candidate-not t = go (findName name) refl
+      where
+        go : (o : StaticFound) → findName name ≡ o → Nothing ≡ o
+        go (At j) e =
+            let l = name-found name 61 1 j e in
+            let same : At i ≡ At j = sym c ∙ found-candidate j e in
+            let at : j .value ≡ i .value = cc in
+            absurd (not-both (hasName (i .value) name) (name-has name (i .value) (ap staticName (sym at) ∙ l .holds)) t)
+        go Nothing e = refl
+
+    pub candidate-has : hasName (i .value) name ≡ true → At i ≡ findName name
+    candidate-has t = go (findName name) refl
+      where
+        go : (o : StaticFound) → findName name ≡ o → At i ≡ o
+        go (At j) e = sym c ∙ found-candidate j e
+        go Nothing e = absurd (name-nothing name 61 1 e (i .value) (candidate-fits .0) (omega (arith, candidate-fits .1)) (has-name name (i .value) t))
 
 -- ---- the arms of the `match`: the hashes that occur, from the last arm to the first
 

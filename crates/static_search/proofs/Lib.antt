@@ -2,6 +2,7 @@
 pub mod Testing
 pub mod Finding
 pub mod Hashing
+pub mod Compared
 pub mod Runs
 pub mod Words
 pub mod Values

@@ -55,7 +55,7 @@ module _ (first : TableIndex) (lo : 1 ≤ first .value) (hi : first .value ≤ 6
   pub last-high : lastOf a ≤ 61
   last-high = leb→le (lastOf a) 61 (both-left (leb (lastOf a) 61) _ tested)
 
-  named : (k : ℕ) → a ≤ k → k ≤ 61 → hasName k name ≡ leb k (lastOf a)
+  pub named : (k : ℕ) → a ≤ k → k ≤ 61 → hasName k name ≡ leb k (lastOf a)
   named k low high =
       let e : a + (k - a) ≡ k = omega arith in
       agree-eq _ _ (subst (λ (i : ℕ). T (agree (hasName i name) (leb i (lastOf a)))) e (below-at _ (62 - a) (k - a) (both-right (leb (lastOf a) 61) _ tested) (omega arith)))

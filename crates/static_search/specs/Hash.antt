@@ -25,6 +25,12 @@ hashedAt Nothing = record { index = record { value = 1 }; length = 0 }
 unfoldable pub hashedOf : ℕ → Hashed
 hashedOf hash = hashedAt (lowestStatic (λ k. eqb (hashOf (staticName k)) hash) 61 1)
 
+-- the one entry that may have this name: that which the hash leaves, where its name has as many bytes
+unfoldable pub candidateOf : List ℕ → StaticFound
+candidateOf name =
+    pick (eqb (length name) 0) Nothing
+    (pick (eqb (hashedOf (hashOf name) .length) (length name)) (At (hashedOf (hashOf name) .index)) Nothing)
+
 -- the same as the table of the program has it: one number
 unfoldable pub storedOf : ℕ → ℕ
 storedOf hash = 256 * hashedOf hash .length + hashedOf hash .index .value

@@ -1,4 +1,5 @@
 -- Searches of the static table.
 pub mod Search
 pub mod Hash
+pub mod Compared
 pub mod Ends

@@ -1,11 +1,12 @@
 // Searches of the static table: a name's hash leaves one entry to compare, and entries with one name stand together. Up to 16 bytes are compared by two
 // words. Most values are those of no entry by their length and first byte.
 ghost use mathlib.Core.Path.{_≡_};
+ghost use mathlib.Core.List.{List·Memᴰ};
 ghost use Prim.Native.Nat.{ℕ, _+_, _≤_};
-ghost use lib.ListN.{length};
 ghost use Rattle.statics.specs.Table.{lastStatic, staticName};
 ghost use Rattle.static_search.specs.Search.{hasName, findName, findBoth};
-ghost use Rattle.static_search.specs.Hash.{hasValue, lastOf, mayBeValue};
+ghost use Rattle.static_search.specs.Hash.{candidateOf, hasValue, lastOf, mayBeValue};
+ghost use Rattle.static_search.specs.Compared.{comparedName, comparedBoth};
 ghost use Rattle.static_search.specs.Ends.{sameEnds};
 use crate::ends::Ends;
 use crate::ends::ends_of;
@@ -36,10 +37,25 @@ fn same_ends(a: Ends, b: Ends) -> bool
     a.last == b.last
 }
 
-// Has this entry, whose name has as many bytes, this name? The static text is laid on the stack where it is made, so only for a long name.
+// The one entry that may have this name: that which the hash leaves, where its name has as many bytes.
+fn candidate(name: &[u8]) -> StaticFound
+    ensures { λ r. ⌜ r ≡ candidateOf (now (name .entry)) ⌝ }
+{
+    if name.len() == 0 {
+        return StaticFound::Nothing;
+    }
+    let hashed = hashed_entry(name_hash(name));
+    let index = hashed.index;
+    if hashed.length == name.len() {
+        return StaticFound::At(index);
+    }
+    StaticFound::Nothing
+}
+
+// Has this entry this name? Bytes of a name are compared here alone, so of the candidate alone. The static text is laid on the stack where it is made, so
+// only for a long name.
 fn has_name(index: TableIndex, name: &[u8]) -> bool
-    requires { ⌜ (1 ≤ index .value) × (index .value ≤ lastStatic) ⌝ }
-    requires { ⌜ length (staticName (index .value)) ≡ length (now name) ⌝ }
+    requires { ⌜ List·Memᴰ (index .value) (comparedName (now name)) ⌝ }
     ensures { λ r. ⌜ r ≡ hasName (index .value) (now (name .entry)) ⌝ }
 {
     let n = name.len();
@@ -50,11 +66,14 @@ fn has_name(index: TableIndex, name: &[u8]) -> bool
     same(&text, static_place(index).start as usize, name, 0, n)
 }
 
-// Has this entry this value? No static value has more than 16 bytes.
-fn has_value(index: TableIndex, value: &[u8]) -> bool
-    requires { ⌜ (1 ≤ index .value) × (index .value ≤ lastStatic) ⌝ }
-    ensures { λ r. ⌜ r ≡ hasValue (index .value) (now (value .entry)) ⌝ }
+// Has the entry that stands so many behind `first`, which is the lowest with its name, this value? Bytes of a value are compared here alone, so only of
+// entries with that name. No static value has more than 16 bytes.
+fn has_value(first: TableIndex, behind: u32, value: &[u8]) -> bool
+    requires { ⌜ (1 ≤ first .value) × (first .value + behind ≤ lastStatic) ⌝ }
+    requires { ⌜ List·Memᴰ (first .value + behind) (comparedBoth (staticName (first .value))) ⌝ }
+    ensures { λ r. ⌜ r ≡ hasValue (first .value + behind) (now (value .entry)) ⌝ }
 {
+    let index = TableIndex::new(first.value + behind);
     let p = static_place(index);
     let n = p.value as usize;
     if n != value.len() {
@@ -67,14 +86,10 @@ fn has_value(index: TableIndex, value: &[u8]) -> bool
 pub fn find_name(name: &[u8]) -> StaticFound
     ensures { λ r. ⌜ r ≡ findName (now (name .entry)) ⌝ }
 {
-    if name.len() == 0 {
+    let left = candidate(name);
+    let StaticFound::At(index) = left else {
         return StaticFound::Nothing;
-    }
-    let hashed = hashed_entry(name_hash(name));
-    let index = hashed.index;
-    if hashed.length != name.len() {
-        return StaticFound::Nothing;
-    }
+    };
     if !has_name(index, name) {
         return StaticFound::Nothing;
     }
@@ -103,9 +118,8 @@ fn find_value(first: TableIndex, value: &[u8]) -> StaticFound
     let last = last_of(first);
     let mut i: u32 = first.value;
     while i <= last.value {
-        let index = TableIndex::new(i);
-        if has_value(index, value) {
-            return StaticFound::At(index);
+        if has_value(first, i - first.value, value) {
+            return StaticFound::At(TableIndex::new(i));
         }
         i += 1;
     }

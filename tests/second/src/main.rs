@@ -2,6 +2,7 @@
 mod current;
 mod library;
 mod mixed;
+mod names;
 mod program;
 mod published;
 mod random;
@@ -27,7 +28,8 @@ const USAGE: &str = "usage:
   second record KIND SEED CALLS   write a run as a recording, by the second program alone
   second replay FILE..            print the second program's outcomes on recordings
   second compare FILE..           compare both on recordings
-  second published                compare both with the published examples";
+  second published                compare both with the published examples
+  second names                    compare both on the static names and those beside them";
 
 fn number(word: &str) -> Result<u64, String> {
     word.parse().map_err(|_| format!("no number: {word}"))
@@ -98,6 +100,7 @@ fn command(words: &[&str]) -> Result<bool, String> {
         ["replay", ref files @ ..] => replay(files),
         ["compare", ref files @ ..] => compare(files),
         ["published"] => published::all(),
+        ["names"] => names::all(),
         _ => Err(USAGE.to_string()),
     }
 }

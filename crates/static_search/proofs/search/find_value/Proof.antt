@@ -1,44 +1,54 @@
 -- `static_search::search::find_value` meets its contract. The loop's invariant: what is sought is the lowest index from `i` on.
 use denote.Ref.{now}
-use Prim.Native.Nat.{ℕ, _-_, _≤_}
-use mathlib.Core.Path.{_≡_, ap, sym, _∙_}
+use Prim.Native.Nat.{ℕ, _+_, _-_, _≤_}
+use mathlib.Core.Path.{_≡_, ap, sym, subst, _∙_}
+use mathlib.Core.List.{List·Memᴰ}
 use native.Mathlib.Omega.{arith}
 use Rattle.integers.specs.declared.number.TableIndex.{TableIndex}
 use Rattle.statics.specs.Table.{staticName}
-use Rattle.static_search.specs.Hash.{hasValue}
+use Rattle.static_search.specs.Hash.{hasValue, lastOf}
 use Rattle.static_search.specs.Search.{hasBoth, lowestBoth, findBoth}
 use Rattle.static_search.specs.declared.search.StaticFound.the-variants.{At}
 use Rattle.static_search.proofs.Finding.{turn-here, turn-next}
+use Rattle.static_search.proofs.Compared.{run-compared}
 use Rattle.static_search.proofs.Runs.{last-high, value-decides, run-over, run-start}
 use borrow.Author.Needs.{needs}
 use Rattle.static_search.proofs.search.find_value.Statement.{statement}
 use Rattle.static_search.proofs.search.find_value.Tie as tie
 
 abbrev Inv-loop : tie.InvT-loop
-Inv-loop value last i₀ i = (i₀ ≤ i) × (findBoth (staticName i₀) value ≡ lowestBoth (62 - i) i (staticName i₀) value)
+Inv-loop first value last i₀ i = (i₀ ≤ i) × (findBoth (staticName i₀) value ≡ lowestBoth (62 - i) i (staticName i₀) value)
 
 abbrev μ-loop : tie.MeasureT-loop
-μ-loop value last i₀ i = 62 - i
+μ-loop first value last i₀ i = 62 - i
 
 abbrev number : TableIndex → ℕ
 number index = index .value
 
--- an index of the run is one of the table, and there the value decides
-high : (c : tie.Then1 Inv-loop μ-loop) → c .before .before .loop .i ≤ 61
-high c =
-    let p = c .before .before .before .before .before .pre in
-    omega (arith, ap number (c .before .before .before .last-of .ensures), last-high _ (p .0) (p .1) (p .2), c .if1 .taken)
+-- an index of the run is one of the table, it is so many behind the first, and there the value decides
+module _ (c : tie.After-struct-known2 Inv-loop μ-loop) where
+  abbrev first : ℕ
+  first = c .before .before .before .before .before .before .args .first .value
 
-decides : (c : tie.After-has-value Inv-loop μ-loop)
-    → let a = c .before .before .before .before .before .before .before .args in
-    c .has-value .result ≡ hasBoth (c .before .before .before .before .loop .i) (staticName (a .first .value)) (now (a .value))
+  abbrev i : ℕ
+  i = c .before .before .before .loop .i
+
+  in-run : i ≤ lastOf first
+  in-run = omega (arith, ap number (c .before .before .before .before .last-of .ensures), c .before .if1 .taken)
+
+  high : i ≤ 61
+  high = let p = c .before .before .before .before .before .before .pre in omega (arith, in-run, last-high _ (p .0) (p .1) (p .2))
+
+  behind : first + (i - first) ≡ i
+  behind = omega (arith, c .before .before .before .loop .inv .0)
+
+decides : (c : tie.After-has-value Inv-loop μ-loop) → let a = c .before .before .before .before .before .before .before .args in
+    c .has-value .result ≡ hasBoth (i (c .before)) (staticName (a .first .value)) (now (a .value))
 decides c =
     let a = c .before .before .before .before .before .before .before .args in
     let p = c .before .before .before .before .before .before .before .pre in
-    let l = c .before .before .before .before .loop in
-    c .has-value .ensures ∙ ap (λ (k : TableIndex). hasValue (k .value) (now (a .value))) (c .before .new .ensures)
-    ∙ value-decides _ (p .0) (p .1) (p .2) _ (l .i) (l .inv .0)
-    (omega (arith, ap number (c .before .before .before .before .before .last-of .ensures), c .before .before .if1 .taken))
+    c .has-value .ensures ∙ ap (λ (k : ℕ). hasValue k (now (a .value))) (behind (c .before))
+    ∙ value-decides _ (p .0) (p .1) (p .2) _ (i (c .before)) (c .before .before .before .before .loop .inv .0) (in-run (c .before))
 
 last-of-requires : tie.Need-last-of-requires Inv-loop μ-loop
 last-of-requires c κs = search needs
@@ -46,30 +56,35 @@ last-of-requires c κs = search needs
 loop-holds : tie.Need-loop-holds Inv-loop μ-loop
 loop-holds c = let p = c .before .before .pre in (omega arith, run-start _ (p .0) (p .1) (p .2) _)
 
-new-requires : tie.Need-new-requires Inv-loop μ-loop
-new-requires c κs = omega (arith, c .before .before .before .before .before .pre .0, c .before .before .loop .inv .0, high c)
+sub-has-value : tie.Need-sub-has-value Inv-loop μ-loop
+sub-has-value c = omega (arith, c .before .before .before .loop .inv .0)
 
 has-value-requires : tie.Need-has-value-requires Inv-loop μ-loop
 has-value-requires c κs =
-    omega (arith, ap number (c .new .ensures), c .before .before .before .before .before .before .pre .0, c .before .before .before .loop .inv .0, high (c .before))
+    let p = c .before .before .before .before .before .before .pre in
+    ((p .0, omega (arith, behind c, high c)), run-compared _ (p .2) (i c - first c) (omega (arith, behind c, in-run c)))
+
+new-requires : tie.Need-new-requires Inv-loop μ-loop
+new-requires c κs =
+    omega (arith, c .before .before .before .before .before .before .before .before .pre .0, c .before .before .before .before .before .loop .inv .0, high (c .before .before))
 
 returns : tie.Need-returns Inv-loop μ-loop
 unfolding lowestBoth
 returns c =
-    ap (λ (k : TableIndex). At k) (c .before .before .new .ensures)
-    ∙ sym (c .before .before .before .before .before .loop .inv .1 ∙ turn-here _ _ (high (c .before .before .before)) (sym (decides (c .before)) ∙ c .if2 .taken))
+    ap (λ (k : TableIndex). At k) (c .new .ensures)
+    ∙ sym (c .before .before .before .before .before .before .loop .inv .1 ∙ turn-here _ _ (high (c .before .before .before)) (sym (decides (c .before .before)) ∙ c .before .if2 .taken))
 
 add-i : tie.Need-add-i Inv-loop μ-loop
-add-i c = omega (arith, high (c .before .before .before))
+add-i c = omega (arith, high (c .before .before))
 
 loop-less : tie.Need-loop-less Inv-loop μ-loop
-loop-less c = omega (arith, high (c .before .before .before))
+loop-less c = omega (arith, high (c .before .before))
 
 loop-again : tie.Need-loop-again Inv-loop μ-loop
 unfolding lowestBoth
 loop-again c =
     let l = c .before .before .before .before .before .loop .inv in
-    (omega (arith, l .0), l .1 ∙ turn-next _ _ (high (c .before .before .before)) (sym (decides (c .before)) ∙ c .if2 .left))
+    (omega (arith, l .0), l .1 ∙ turn-next _ _ (high (c .before .before)) (sym (decides (c .before)) ∙ c .if2 .left))
 
 returns-2 : tie.Need-returns-2 Inv-loop μ-loop
 returns-2 c =
@@ -85,8 +100,9 @@ find-value-spec =
     μ-loop
     last-of-requires
     loop-holds
-    new-requires
+    sub-has-value
     has-value-requires
+    new-requires
     returns
     add-i
     loop-less

@@ -1,0 +1,4 @@
+pub mod Selecting
+pub mod Few
+pub mod Compared
+pub mod Claim

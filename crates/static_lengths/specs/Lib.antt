@@ -1,0 +1,3 @@
+-- The static entries by the length of their names.
+pub mod Lengths
+pub mod Claim
