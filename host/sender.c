@@ -4,6 +4,8 @@
 
 #include "kolowrotan_list.h"
 
+_Static_assert(KOLOWROTAN_BLOCK_ROOM_OF(REPORT_LIST_ROOM) <= FRAME_ROOM, "the block of every report fits a frame");
+
 static void break_link(struct sender *sender, const char *what, int answer)
 {
     sender->fault.what = what;
@@ -64,7 +66,7 @@ int sender_report(struct sender *sender, const struct report *report, uint32_t s
         return 0;
     report_to_list(report, &list);
     uint64_t result = kolowrotan_encoder_block(sender->table, sizeof sender->table, stream, KOLOWROTAN_NONTRAILER,
-                                               list.bytes, list.length, frame->bytes, sizeof frame->bytes);
+                                               list.bytes, list.length, frame->bytes, KOLOWROTAN_BLOCK_ROOM_OF(list.length));
     if (KOLOWROTAN_ANSWER(result) != KOLOWROTAN_DONE)
         unexpected("encoder block", result);
     frame->kind = FRAME_BLOCK;

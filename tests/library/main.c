@@ -11,6 +11,7 @@
 #include "lists.h"
 #include "packed.h"
 #include "padded.h"
+#include "room.h"
 #include "stack.h"
 
 /* Bytes lent past what a table needs. */
@@ -281,6 +282,7 @@ int main(int count, char **arguments)
     encoder_blocks();
     packed();
     padded();
+    room();
     lists();
     /* valgrind takes what a call left on its stack as undefined */
     if (guard != 0)

@@ -1,125 +1,103 @@
--- A block takes at most twice the bytes of its list: field by field, by the ways of the choice. So a short list in a long output need not be measured.
-use Prim.Native.Nat.{ℕ, _+_, _*_, _-_, _^_, _≤_, _<_}
+-- A block takes at most its list's bytes plus two for each field, and a list has three bytes for each at least: field by field, and along its reading. So a
+-- short list in a long output need not be measured.
+use Prim.Native.Nat.{ℕ, zero, suc, _+_, _*_, _/_, _≤_, _<_}
 use mathlib.Core.Path.{_≡_, refl, sym, ap, subst, _∙_}
 use native.Mathlib.Omega.{arith}
-use mathlib.Core.Option.{Option, none, some}
+use native.Mathlib.Numerals.{sub-one}
+use mathlib.Core.Bool.{true}
 use mathlib.Core.List.{List, [], _∷_, map}
-use lib.Dec.{eqb, ltb, leb}
+use lib.Dec.{leb}
 use lib.ListN.{length, length-append}
 use borrow.Author.Tests.{le-leb, lt-leb}
-use Rattle.memory.specs.Choice.{pick}
 use Rattle.memory.specs.Bytes.{Small}
-use Rattle.memory.proofs.Order.{split, pick-both, need-true, need-false}
-use Rattle.wire.specs.Text.{wireSize}
-use Rattle.wire.specs.Name.{indexed as by-index, literal as by-bytes}
-use Rattle.wire.proofs.TextWriting.{size-within}
-use Rattle.static_search.specs.Search.{findName, findBoth}
-use Rattle.static_search.specs.declared.search.StaticFound.{StaticFound}
-use Rattle.static_search.specs.declared.search.StaticFound.the-variants.{At, Nothing}
-use Rattle.fields.specs.Form.{Field, FineField, AllFine, fieldForm, fieldSize, listForm}
-use Rattle.fields.specs.Reading.{FieldListRead, list, readFieldList}
-use Rattle.fields.proofs.Sizes.{fieldForm-length}
-use Rattle.fields.proofs.Lists.{list-forth}
-use Rattle.blocks.specs.Representation.{Representation, indexed, literal, representationWire, blockWire}
+use Rattle.memory.proofs.Order.{split, need-true, need-false}
+use Rattle.fields.specs.Form.{Field, AllFine, fieldForm, listForm}
+use Rattle.fields.specs.Reading.{FieldListRead, list, readField, fieldsFrom, readFieldList}
+use Rattle.fields.specs.declared.read.FieldPlace.{FieldPlace}
+use Rattle.fields.specs.declared.read.FieldRead.{FieldRead}
+use Rattle.fields.specs.declared.read.FieldRead.the-variants.{Found, Refused}
+use Rattle.fields.proofs.Inverse.{field-inverse}
+use Rattle.fields.proofs.Bounds.{text-bounds}
+use Rattle.fields.proofs.Walk.{walk-done, walk-refused, walk-more}
+use Rattle.fields.proofs.Lists.{listForm-cons, list-forth}
+use Rattle.blocks.specs.Representation.{blockWire}
 use Rattle.blocks.proofs.Writing.{block-wire-nil}
-use Rattle.model.specs.Encoder.{Sent, sentIndex, serves, servesBoth, dynamicName, staticName, chooseName, dynamicField, staticField, choose}
-use Rattle.model.specs.Table.{lowest}
+use Rattle.model.specs.Encoder.{Sent, choose}
 use Rattle.state.specs.EncoderState.{encoderOf}
-use Rattle.sizes.specs.Sizes.{groupsSize, intSize, stringSize, literalIndexSize, literalTextSize}
-use Rattle.sizes.proofs.Equations.{groups-one, groups-two, groups-three, groups-four, int-prefix, int-groups}
-use Rattle.sizes.proofs.Lengths.{indexed-size, literal-index-size, literal-text-size}
+use Rattle.state.specs.Forms.{formsEncoder}
+use Rattle.state_laws.proofs.EncoderLaws.{encoder-laws}
 use Rattle.encoder_fields.specs.Measure.{fieldsIn, representationsOf, roomAnswer}
 use Rattle.encoder_fields.proofs.Fields.{length-more}
+use Rattle.encoder_fields.proofs.Within.{LowTable, forms-low, choice-within}
 
--- ---- sizes
+-- ---- the block
 
-groups-most : (v : ℕ) → groupsSize v ≤ 4
-groups-most v =
-    split v 128 (λ h. omega (arith, groups-one v h))
-    (λ h. split v 16384 (λ k. omega (arith, groups-two v h k))
-    (λ k. split v 2097152 (λ l. omega (arith, groups-three v k l)) (λ l. omega (arith, groups-four v l))))
+-- the bytes of the block that is chosen for a list
+abbrev pub blockLength : List Sent → List Field → ℕ
+blockLength l fs = length (blockWire (map (choose l) fs))
 
-int-most : (k v : ℕ) → intSize k v ≤ 5
-int-most k v =
-    split v (2 ^ k - 1) (λ h. omega (arith, int-prefix k v (2 ^ k - 1) refl h))
-    (λ h. omega (arith, int-groups k v (2 ^ k - 1) refl h, groups-most (v - (2 ^ k - 1))))
+pub form-more : (f : Field) (fs : List Field) → length (listForm (f ∷ fs)) ≡ length (fieldForm f) + length (listForm fs)
+form-more f fs = ap length (listForm-cons f fs) ∙ length-append (fieldForm f) (listForm fs)
 
-string-most : (n : ℕ) → stringSize n ≤ 2 * n + 1
-unfolding stringSize
-string-most n = split n 127 (λ h. omega (arith, int-prefix 7 n 127 refl h)) (λ h. omega (arith, int-most 7 n))
-
-field-least : (name value : ℕ) → 3 + name + value ≤ fieldSize name value
-unfolding fieldSize
-field-least name value =
-    let one : (n : ℕ) → 1 ≤ pick (ltb n 128) 1 2 = λ n. pick-both (λ (k : ℕ). 1 ≤ k) (ltb n 128) 1 2 (λ t. omega arith) (λ t. omega arith) in
-    omega (arith, one name, one value)
-
--- ---- a field
-
-module _ (l : List Sent) (f : Field) where
-  abbrev Short : Representation → Type 0
-  Short r = length (representationWire r) ≤ 2 * (3 + length (f .name) + length (f .value))
-
-  index-short : (i : ℕ) → Short (indexed i)
-  index-short i = omega (arith, indexed-size i, int-most 7 i)
-
-  literal-short : (flag : ℕ) → Short (literal flag (chooseName l (f .name)) (f .value))
-  unfolding chooseName staticName dynamicName literalIndexSize literalTextSize
-  literal-short flag = go (findName (f .name))
-    where
-      named : (j : ℕ) → Short (literal flag (by-index j) (f .value))
-      named j = omega (arith, literal-index-size flag j (f .value), int-most 6 j, string-most (wireSize (f .value)), size-within (f .value))
-
-      text : Short (literal flag (by-bytes (f .name)) (f .value))
-      text = omega (arith, literal-text-size flag (f .name) (f .value), string-most (wireSize (f .name)), size-within (f .name), string-most (wireSize (f .value)), size-within (f .value))
-
-      dynamic : (o : Option Sent) → Short (literal flag (dynamicName (f .name) o) (f .value))
-      dynamic none = text
-      dynamic (some e) = named (e .index)
-
-      go : (o : StaticFound) → Short (literal flag (staticName l (f .name) o) (f .value))
-      go (At j) = named (j .value)
-      go Nothing = dynamic (lowest sentIndex (serves (f .name)) l)
-
-  choose-short : Short (choose l f)
-  unfolding choose staticField dynamicField
-  choose-short =
-      pick-both Short (eqb (f .flag) 1) (literal 1 (chooseName l (f .name)) (f .value)) (staticField l f (findBoth (f .name) (f .value)))
-      (λ t. literal-short 1)
-      (λ t. go (findBoth (f .name) (f .value)))
-    where
-      dynamic : (o : Option Sent) → Short (dynamicField l f o)
-      dynamic none = literal-short 0
-      dynamic (some e) = index-short (e .index)
-
-      go : (o : StaticFound) → Short (staticField l f o)
-      go (At j) = index-short (j .value)
-      go Nothing = dynamic (lowest sentIndex (servesBoth (f .name) (f .value)) l)
-
--- ---- a list
-
-all-short : (l : List Sent) (fs : List Field) → AllFine fs → length (blockWire (map (choose l) fs)) ≤ 2 * length (listForm fs)
-unfolding listForm
-all-short l [] fine = omega (arith, ap length block-wire-nil)
-all-short l (f ∷ fs) fine =
+block-within : (l : List Sent) → LowTable l → (fs : List Field) → AllFine fs → blockLength l fs ≤ length (listForm fs) + 2 * length fs
+block-within l low [] fine = omega (arith, ap length block-wire-nil)
+block-within l low (f ∷ fs) fine =
     omega (
       arith,
       length-more (choose l f) (map (choose l) fs),
-      length-append (fieldForm f) (listForm fs),
-      fieldForm-length f (fine .0),
-      field-least (length (f .name)) (length (f .value)),
-      choose-short l f,
-      all-short l fs (fine .1),
+      form-more f fs,
+      choice-within f (fine .0) l low,
+      block-within l low fs (fine .1),
     )
 
-pub block-short : (m s : List ℕ) → Small s → (fs : List Field) → readFieldList s ≡ list fs → length (blockWire (representationsOf m s)) ≤ 2 * length s
-block-short m s small fs e =
+-- ---- three bytes for a field: its flag, and a length for each of its two strings
+
+module _ (s : List ℕ) where
+  field-three : (at : ℕ) (p : FieldPlace) (next : ℕ) → readField s at ≡ Found p next → (at + 3 ≤ next) × (next ≤ length s)
+  field-three at p next e =
+      let i = field-inverse s at p next e in
+      let n = text-bounds s (at + 1) 255 (p .name) (i .middle) (i .name-read) in
+      let v = text-bounds s (i .middle) 2047 (p .value) next (i .value-read) in
+      (omega (arith, n .start-after, n .ends, v .start-after, v .ends), v .inside)
+
+  -- the fields from a place on
+  step-three : (f at : ℕ) (rest : List Field) → at < length s → length s ≤ at + suc f → fieldsFrom (suc f) s at [] ≡ list rest
+      → ((at : ℕ) (rest : List Field) → at ≤ length s → length s ≤ at + f → fieldsFrom f s at [] ≡ list rest → at + 3 * length rest ≤ length s)
+      → (r : FieldRead) → r ≡ readField s at → at + 3 * length rest ≤ length s
+  step-three f at rest h k e later (Refused number) d = absurd (walk-refused s (suc f) at rest e h k _ d number refl)
+  step-three f at rest h k e later (Found p next) d =
+      let w = walk-more s (suc f) at rest e h k _ d p next refl in
+      let b = field-three at p next (sym d) in
+      omega (arith, ap length (w .1), b .0, later next (w .0) (b .1) (omega (arith, b .0)) (rw sub-one at (w .2)))
+
+  from-three : (f at : ℕ) (rest : List Field) → at ≤ length s → length s ≤ at + f → fieldsFrom f s at [] ≡ list rest → at + 3 * length rest ≤ length s
+  from-three zero at rest h k e = omega (arith, ap length (walk-done s zero at rest e (omega arith)))
+  from-three (suc f) at rest h k e =
+      split at (length s)
+      (λ l. step-three f at rest l k e (λ next fs. from-three f next fs) (readField s at) refl)
+      (λ l. omega (arith, ap length (walk-done s (suc f) at rest e l)))
+
+  pub three : (fs : List Field) → readFieldList s ≡ list fs → 3 * length fs ≤ length s
+  three fs e = omega (arith, from-three (length s) 0 fs (omega arith) (omega arith) e)
+
+-- ---- of a list that was read
+
+pub read-within : (l : List Sent) → LowTable l → (s : List ℕ) → Small s → (fs : List Field) → readFieldList s ≡ list fs
+    → blockLength l fs ≤ length s + 2 * length fs
+read-within l low s small fs e =
     let w = list-forth s small fs e in
+    omega (arith, block-within l low fs (w .1), ap length (w .0))
+
+-- against memory that forms a state, the fields not counted
+pub list-within : (m s : List ℕ) → Small m → formsEncoder m ≡ true → Small s → (fs : List Field) → readFieldList s ≡ list fs
+    → length (blockWire (representationsOf m s)) ≤ length s + 2 * (length s / 3)
+list-within m s small forms bytes fs e =
+    let low = forms-low (encoderOf m) (encoder-laws .fits m small forms .forms) in
     omega (
       arith,
-      ap (λ (r : FieldListRead). length (blockWire (map (choose (encoderOf m .entries)) (fieldsIn r)))) e,
-      all-short (encoderOf m .entries) fs (w .1),
-      ap length (w .0),
+      ap (λ (r : FieldListRead). blockLength (encoderOf m .entries) (fieldsIn r)) e,
+      read-within (encoderOf m .entries) low s bytes fs e,
+      three s fs e,
     )
 
 -- ---- the room's answer

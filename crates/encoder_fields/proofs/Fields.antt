@@ -1,13 +1,12 @@
 -- A field list walked again, to measure and to write its block: what is left of the list from a place on, and the bytes of one representation more.
 use Prim.Native.Nat.{ℕ, _+_, _-_, _≤_, _<_}
-use mathlib.Core.Path.{_≡_, refl, sym, ap, ap₂, _∙_}
+use mathlib.Core.Path.{_≡_, refl, sym, ap, _∙_}
 use native.Mathlib.Omega.{arith}
 use mathlib.Core.List.{List, [], _∷_, map}
 use lib.ListN.{length, length-append}
 use borrow.Author.Tests.{le-ltb, lt-ltb}
 use Rattle.memory.specs.Bytes.{overlay}
 use Rattle.memory.proofs.Order.{split}
-use Rattle.memory.proofs.Overlay.{length-overlay, overlay-append}
 use Rattle.memory.proofs.Places.{length-part}
 use Rattle.fields.specs.Form.{Field, FineField}
 use Rattle.fields.specs.Reading.{readField, fieldAnswer, fieldOf, fieldsFrom, readFieldList, FieldListRead.list}
@@ -73,13 +72,8 @@ field-fine s p i = record {
 
 -- ---- bytes
 
-module _ (r : Representation) (rs : List Representation) where
-  pub length-more : length (blockWire (r ∷ rs)) ≡ length (representationWire r) + length (blockWire rs)
-  length-more = ap length (block-wire-cons r rs) ∙ length-append (representationWire r) (blockWire rs)
-
-  overlay-more : (out : List ℕ) (to : ℕ)
-      → overlay out to (blockWire (r ∷ rs)) ≡ overlay (overlay out to (representationWire r)) (to + length (representationWire r)) (blockWire rs)
-  overlay-more out to = ap (overlay out to) (block-wire-cons r rs) ∙ overlay-append out to (representationWire r) (blockWire rs)
+pub length-more : (r : Representation) (rs : List Representation) → length (blockWire (r ∷ rs)) ≡ length (representationWire r) + length (blockWire rs)
+length-more r rs = ap length (block-wire-cons r rs) ∙ length-append (representationWire r) (blockWire rs)
 
 -- what can be written at the place `to` of as much room
 abbrev pub Writable : ℕ → ℕ → Representation → Type 0
@@ -108,21 +102,6 @@ module _ (l : List Sent) (all so-far : ℕ) (rest : List Field) (left : all ≡ 
     -- there is room for the first where there is room for all
     pub room-more : (room : ℕ) → all ≤ room → so-far + length (representationWire r) ≤ room
     room-more room h = omega (arith, ap length wire-first, length-more r (map (choose l) fs))
-
-    -- the first is written
-    pub written-more : (out : List ℕ) (end : ℕ) (new : List ℕ) → end ≡ so-far + length (representationWire r) → new ≡ overlay out so-far (representationWire r)
-        → (length new ≡ length out) × (all ≡ end + length (blockWire (map (choose l) fs)))
-        × (overlay out so-far (blockWire (map (choose l) rest)) ≡ overlay new end (blockWire (map (choose l) fs)))
-    written-more out end new e d = (
-      ap length d ∙ length-overlay out so-far (representationWire r),
-      omega (arith, counted-more (length (representationWire r)) refl),
-      ap (overlay out so-far) wire-first
-          ∙ overlay-more r (map (choose l) fs) out so-far
-          ∙ ap₂ (λ (o : List ℕ) (to : ℕ). overlay o to (blockWire (map (choose l) fs))) (sym d) (sym e),
-    )
-
-  pub written-all : (out : List ℕ) → rest ≡ [] → overlay out so-far (blockWire (map (choose l) rest)) ≡ out
-  written-all out e = ap (λ (t : List Field). overlay out so-far (blockWire (map (choose l) t))) e ∙ ap (overlay out so-far) block-wire-nil
 
 -- ---- the count is cut off
 

@@ -1,5 +1,6 @@
--- The choice of representations, what is chosen, and the list field by field.
+-- The choice of representations, what is chosen, the list field by field, and the bytes that its block takes at most.
 pub mod Choosing
 pub mod Chosen
 pub mod Fields
+pub mod Within
 pub mod Bound

@@ -28,8 +28,9 @@ use parts::turn::Part;
 // The length told of a block that is too long: one more than a block may have.
 const OVER: usize = BLOCK_LIMIT + 1;
 
-// A list of so many bytes has a block that is not too long: a block takes at most twice the bytes of its list.
-const SHORT_LIST: usize = BLOCK_LIMIT / 2;
+// The longest list whose block is not too long by the list's bytes alone: a block takes at most these and two for each field, which has three at least. So it
+// has at most 9,830 + 2 * 3,276 = 16,382 bytes; of a list of 9,831 it might have 16,385.
+const SHORT_LIST: usize = 9_830;
 
 // One field: the place after its representation, if that stands at the place `at`. Where `write` says so it is written there, and its reference entered.
 fn write_field(
@@ -89,7 +90,8 @@ pub fn write_list(
     to
 }
 
-// Whether the list's block may be written: 0, or the answer's number. A short list is not measured: twice its bytes are room enough.
+// Whether the list's block may be written: 0, or the answer's number. A short list is not measured where the output holds the longest
+// block that so many bytes can have: that is what a host lends by KOLOWROTAN_BLOCK_ROOM_OF.
 pub fn room_answer(m: &mut [u8], stream: StreamNumber, part: Part, s: &[u8], out: &mut [u8]) -> u8
     requires { ⌜ (formsEncoder (now m) ≡ true) × (stream .value < 4096) ⌝ }
     requires { ⌜ ReadsWell (now s) ⌝ }
@@ -98,7 +100,7 @@ pub fn room_answer(m: &mut [u8], stream: StreamNumber, part: Part, s: &[u8], out
     ensures { λ _. ⌜ now (out .exit) ≡ now (out .entry) ⌝ }
 {
     if s.len() <= SHORT_LIST {
-        if 2 * s.len() <= out.len() {
+        if s.len() + 2 * (s.len() / 3) <= out.len() {
             return 0;
         }
     }

@@ -33,6 +33,8 @@ pub struct Library {
     pub inputs: [Lent; 2],
     pub output: Lent,
     calls: usize,
+    /// Another one with memory and buffers of its own, made when it is first asked for.
+    twin: Option<Box<Library>>,
 }
 
 /// What a call said: the answer and the two told numbers; and whether it kept the registers that a C function must keep.
@@ -50,7 +52,7 @@ impl Library {
         let memories = [homes[0].last(0), homes[1].last(0)];
         let apart = [Region::new(LENT_MOST), Region::new(LENT_MOST), Region::new(LENT_MOST)];
         let (inputs, output) = ([apart[0].last(0), apart[1].last(0)], apart[2].last(0));
-        Library { homes, memories, apart, inputs, output, calls: 0 }
+        Library { homes, memories, apart, inputs, output, calls: 0, twin: None }
     }
 
     pub fn memory(&self, end: End) -> &Lent {
@@ -61,6 +63,11 @@ impl Library {
     pub fn give(&mut self, end: End, bytes: &[u8]) {
         self.memories[end as usize] = self.homes[end as usize].last(bytes.len());
         self.memories[end as usize].bytes_mut().copy_from_slice(bytes);
+    }
+
+    /// The other one, whose memory is what it was given last.
+    pub fn twin(&mut self) -> &mut Library {
+        self.twin.get_or_insert_with(|| Box::new(Library::new()))
     }
 
     /// What every byte of the output held before the last call.

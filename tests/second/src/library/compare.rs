@@ -1,7 +1,9 @@
 //! One step at a time through the second program and, where it is lent, the library; everything that a call may show is compared.
 use super::calls::{inputs_of, Library};
 use super::layout::{self, DECODER_BYTES, ENCODER_BYTES};
+use super::room;
 use super::tally::Tally;
+use crate::program::blocks::BLOCK_MOST;
 use crate::program::call::{Call, End, Outcome, Second};
 use crate::random::Random;
 use crate::recording::Step;
@@ -37,6 +39,8 @@ pub struct Bench<'a> {
     pub second: Second,
     sides: [Side; 2],
     library: Option<&'a mut Library>,
+    /// The encoder's memory before the last block that was written.
+    before: Vec<u8>,
     pub steps: Vec<Step>,
     pub calls: usize,
     pub tally: Tally,
@@ -52,7 +56,8 @@ fn length_of(end: End) -> usize {
 impl<'a> Bench<'a> {
     pub fn new(library: Option<&'a mut Library>) -> Bench<'a> {
         let sides = [Side::new(), Side::new()];
-        let mut bench = Bench { second: Second::default(), sides, library, steps: Vec::new(), calls: 0, tally: Tally::default() };
+        let (second, tally) = (Second::default(), Tally::default());
+        let mut bench = Bench { second, sides, library, before: Vec::new(), steps: Vec::new(), calls: 0, tally };
         if let Some(library) = &mut bench.library {
             library.restart();
         }
@@ -143,6 +148,11 @@ impl<'a> Bench<'a> {
         let end = call.end();
         let side = &mut self.sides[end as usize];
         let library = self.library.as_mut().expect("asked for with a library");
+        // 12 is judged last: then the list is right, and its block too.
+        let block = matches!(call, Call::EncoderBlock { .. }) && matches!(outcome.answer, 0 | 12);
+        if block {
+            self.before.clone_from(&side.expected);
+        }
         let said = library.make(call, side.lend);
         if (said.answer, said.first, said.second) != (outcome.answer, outcome.first, outcome.second) {
             return Err(format!(
@@ -160,9 +170,29 @@ impl<'a> Bench<'a> {
             }
         }
         self.buffers(call, outcome)?;
+        if block {
+            self.room(call, outcome)?;
+        }
         if self.calls % READ_BACK_EVERY == 0 {
             self.read_back(end)?;
         }
+        Ok(())
+    }
+
+    /// Document 02's bound on a block that was written, or for which there was too little room.
+    fn room(&mut self, call: &Call, outcome: &Outcome) -> Result<(), String> {
+        let side = &self.sides[End::Encoder as usize];
+        let twin = self.library.as_mut().expect("asked for with a library").twin();
+        let reached = if outcome.done() {
+            room::check(twin, call, outcome, &self.before, side.lend, &side.expected)?
+        } else {
+            let mut second = self.second.clone();
+            let enough = second.make(&call.clone().with_room(BLOCK_MOST), true);
+            let mut after = self.before.clone();
+            layout::lay_encoder(&mut after, second.encoder.as_ref().expect("it has a state"));
+            room::check(twin, call, &enough, &self.before, side.lend, &after)?
+        };
+        self.tally.reached(reached);
         Ok(())
     }
 
@@ -201,7 +231,7 @@ impl<'a> Bench<'a> {
 }
 
 /// Says at which byte two buffers of one length differ.
-fn same(what: &str, library: &[u8], second: &[u8]) -> Result<(), String> {
+pub(super) fn same(what: &str, library: &[u8], second: &[u8]) -> Result<(), String> {
     if library == second {
         return Ok(());
     }

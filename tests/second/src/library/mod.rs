@@ -4,4 +4,5 @@ pub mod compare;
 mod kept;
 pub mod layout;
 mod lent;
+mod room;
 pub mod tally;

@@ -1,4 +1,6 @@
-//! How often each call got each answer, and how full the tables were: a run that reaches little would prove little.
+//! How often each call got each answer, how full the tables were, and how near blocks came to their bound: a run that reaches little would
+//! prove little.
+use super::room::Reached;
 use crate::program::call::{Call, Outcome, Second};
 
 /// One more than the highest number of the table of answers.
@@ -25,6 +27,8 @@ pub struct Tally {
     counts: [[u64; ANSWERS]; REACHABLE.len()],
     /// The most entries that an end held: decoder, encoder.
     most: [usize; 2],
+    /// The blocks at the bound of document 02, those of them with its numbers, and those with the most bytes of a block.
+    bound: [u64; 3],
 }
 
 fn place(call: &Call) -> usize {
@@ -51,11 +55,20 @@ impl Tally {
         self.most = [self.most[0].max(held[0]), self.most[1].max(held[1])];
     }
 
+    /// A block was written, or would have been with more room.
+    pub fn reached(&mut self, reached: Reached) {
+        let [bound, closed, most] = &mut self.bound;
+        *bound += u64::from(matches!(reached, Reached::Bound | Reached::Closed));
+        *closed += u64::from(reached == Reached::Closed);
+        *most += u64::from(reached == Reached::Most);
+    }
+
     pub fn add(&mut self, other: &Tally) {
         for (row, more) in self.counts.iter_mut().zip(&other.counts) {
             row.iter_mut().zip(more).for_each(|(count, more)| *count += more);
         }
         self.most = [self.most[0].max(other.most[0]), self.most[1].max(other.most[1])];
+        self.bound.iter_mut().zip(other.bound).for_each(|(count, more)| *count += more);
     }
 
     pub fn calls(&self) -> u64 {
@@ -71,10 +84,13 @@ impl Tally {
         let mut lines: Vec<String> =
             REACHABLE.iter().zip(&self.counts).map(|((name, _), row)| format!("{name:20}{}", given(row))).collect();
         lines.push(format!("most entries held: {} at the decoder, {} at the encoder", self.most[0], self.most[1]));
+        let [bound, closed, most] = self.bound;
+        lines
+            .push(format!("blocks at their bound: {bound}, of them 259 bytes for 257 of list: {closed}; at 16,384 bytes below it: {most}"));
         lines
     }
 
-    /// Answers that a call never gave although it can, or gave although it cannot, and the tables that never filled.
+    /// Answers that a call never gave although it can, or gave although it cannot, tables that never filled, and a bound never reached.
     pub fn missed(&self) -> Vec<String> {
         let mut missed = Vec::new();
         for ((name, answers), row) in REACHABLE.iter().zip(&self.counts) {
@@ -85,6 +101,9 @@ impl Tally {
         }
         if self.most != [128, 128] {
             missed.push("128 entries were not held at both ends".to_string());
+        }
+        if self.bound[0] == 0 || self.bound[1] == 0 {
+            missed.push("no block was as long as its bound, or none of 259 bytes for a list of 257".to_string());
         }
         missed
     }

@@ -1,7 +1,7 @@
--- `room_answer` meets its contract: a short list by the bound, and any other by its measure, which leaves memory and output.
+-- `room_answer` meets its contract: a short list by its bound, and any other by its measure, which leaves memory and output.
 use denote.Ref.{now}
-use Prim.Native.Nat.{_*_, _≤_}
-use mathlib.Core.Path.{_≡_, refl, ap}
+use Prim.Native.Nat.{_+_, _*_, _/_, _≤_}
+use mathlib.Core.Path.{refl, ap}
 use native.Mathlib.Omega.{arith}
 use lib.ListN.{length}
 use Rattle.memory.specs.Bytes.{Small}
@@ -10,20 +10,25 @@ use mathlib.Core.Bool.{false}
 use Rattle.blocks.specs.Representation.{blockWire}
 use Rattle.encoder_fields.specs.Measure.{representationsOf}
 use Rattle.encoder_fields.proofs.Fields.{counted-is, counted-above}
-use Rattle.encoder_fields.proofs.Bound.{block-short, room-enough, room-long, room-none}
+use Rattle.encoder_fields.proofs.Bound.{list-within, room-enough, room-long, room-none}
 use borrow.Author.Needs.{needs}
 use Rattle.encoder_passes.proofs.write.room_answer.Statement.{statement}
 use Rattle.encoder_passes.proofs.write.room_answer.Tie as tie
 
-bounded : (c : tie.Then2) → let a = c .before .before .before .before .before .args in length (blockWire (representationsOf (now (a .m)) (now (a .s)))) ≤ 2 * length (now (a .s))
+bounded : (c : tie.Then2) → let a = c .before .before .before .before .before .args in
+    length (blockWire (representationsOf (now (a .m)) (now (a .s)))) ≤ length (now (a .s)) + 2 * (length (now (a .s)) / 3)
 bounded c =
     let a = c .before .before .before .before .before .args in
-    let p = c .before .before .before .before .before .pre .1 in
-    let small : Small (now (a .s)) = λ k. omega (arith, c .before .before .before .shared-slice-known .given k) in
-    block-short (now (a .m)) (now (a .s)) small (p .0) (p .1)
+    let p = c .before .before .before .before .before .pre in
+    let small : Small (now (a .m)) = λ k. omega (arith, c .before .before .before .before .slice-known .given k) in
+    let bytes : Small (now (a .s)) = λ k. omega (arith, c .before .before .before .shared-slice-known .given k) in
+    list-within (now (a .m)) (now (a .s)) small (p .0 .0) bytes (p .1 .0) (p .1 .1)
 
 mul-if2 : tie.Need-mul-if2
 mul-if2 c = search needs
+
+add-if2 : tie.Need-add-if2
+add-if2 c = search needs
 
 returns : tie.Need-returns
 returns c = (room-enough _ _ (omega (arith, bounded c, c .before .if1 .taken)) (omega (arith, bounded c, c .if2 .taken)), (refl, refl))
@@ -71,6 +76,7 @@ room-answer-spec =
     tie.close
     (tie.spec
     mul-if2
+    add-if2
     returns
     write-list-requires
     same-length

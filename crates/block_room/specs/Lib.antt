@@ -1,0 +1,3 @@
+-- How much room a written block needs.
+pub mod Room
+pub mod Claim
