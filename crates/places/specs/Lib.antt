@@ -1,0 +1,3 @@
+-- The 128 places never run out.
+pub mod Places
+pub mod Untested
