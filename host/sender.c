@@ -39,7 +39,6 @@ uint32_t sender_insert(struct sender *sender, const char *name, const char *valu
         bytes_append(&sender->management, output, KOLOWROTAN_FIRST(result));
         return KOLOWROTAN_SECOND(result);
     case KOLOWROTAN_OVER_LIMIT:
-    case KOLOWROTAN_FULL:
         return 0;
     default:
         unexpected("encoder insert", result);

@@ -60,7 +60,7 @@ enum kolowrotan_answer {
     KOLOWROTAN_NO_ROOM = 12,           /* the lent output or memory is too small */
     KOLOWROTAN_TOO_LONG = 13,          /* a string or block is too long */
     KOLOWROTAN_BAD_STREAM_LIST = 14,   /* a bad stream list */
-    KOLOWROTAN_FULL = 15,              /* all 128 places are held */
+    KOLOWROTAN_FULL = 15,              /* no call gives this: an insert that finds all 128 places held passes the limit */
     KOLOWROTAN_BAD_FIELD_LIST = 16,    /* the field list is not in its form */
     KOLOWROTAN_NO_STATE = 17,          /* the memory forms no state of this end */
     KOLOWROTAN_BAD_PACKING = 18,       /* a packed string holds the end mark, or other padding than at most seven ones */
@@ -137,7 +137,7 @@ uint64_t kolowrotan_decoder_start(uint8_t *memory, size_t memory_length, uint64_
  * Reads one instruction, an insert or a delete, from the front of the management bytes. First told: the bytes that it took. Call it
  * again with the rest. On 2 keep the bytes and call again when more have come.
  * Answers: 17; the first of 2, 3, 5, 13, 14, 18, 19 met in the bytes, left to right, at the end of an integer 3, 19, then 5, 13 or 14; an
- * insert 8, 6, 7, 15; a delete 8, 9; 0.
+ * insert 8, 6, 7; a delete 8, 9; 0.
  */
 uint64_t kolowrotan_decoder_read(uint8_t *memory, size_t memory_length, const uint8_t *bytes, size_t bytes_length);
 
@@ -186,7 +186,7 @@ uint64_t kolowrotan_encoder_start(uint8_t *memory, size_t memory_length, uint64_
 /*
  * Puts an entry into the table, at the lowest index from 62 that is not held, and writes its insert, which goes to the decoder.
  * First told: the bytes written; second told: the index.
- * Answers: 17; 13; 7; 15; 12; 0.
+ * Answers: 17; 13; 7; 12; 0.
  */
 uint64_t kolowrotan_encoder_insert(uint8_t *memory, size_t memory_length, const uint8_t *name, size_t name_length,
                                    const uint8_t *value, size_t value_length, uint8_t *output, size_t output_length);

@@ -7,6 +7,7 @@
 #include <string.h>
 
 #include "calls.h"
+#include "full.h"
 #include "kolowrotan.h"
 #include "lists.h"
 #include "packed.h"
@@ -283,6 +284,7 @@ int main(int count, char **arguments)
     packed();
     padded();
     room();
+    full();
     lists();
     /* valgrind takes what a call left on its stack as undefined */
     if (guard != 0)

@@ -1,17 +1,17 @@
 -- An insert of an entry whose name is known: what was judged of it is what the model answers.
 -- By the tests in their order, which both sides have; the table's numbers are the model's.
 use mathlib.Core.Path.{_≡_, refl, sym, ap, ap₂, subst, _∙_}
-use Prim.Native.Nat.{ℕ, _+_, _≤_, _<_}
+use Prim.Native.Nat.{ℕ, _+_, _≤_}
 use native.Mathlib.Omega.{arith}
 use mathlib.Core.Bool.{Bool, true, false, not}
 use mathlib.Core.Option.{Option, some}
 use mathlib.Core.List.{List}
 use lib.ListN.{length}
-use lib.Dec.{leb, ltb}
-use borrow.Author.Tests.{leb-true, ltb-true, le-leb, lt-leb, lt-ltb, le-ltb}
+use lib.Dec.{leb}
+use borrow.Author.Tests.{leb-true}
 use Rattle.memory.specs.Choice.{need}
 use Rattle.memory.proofs.Order.{need-true, need-false}
-use Rattle.integers.specs.Answers.{done, refusal, held, over-limit, full}
+use Rattle.integers.specs.Answers.{done, refusal, held, over-limit}
 use Rattle.instructions.specs.Instruction.{FineIndex}
 use Rattle.model.specs.Table.{size, put}
 use Rattle.model.specs.Outcome.{nothing, Outcome, refuse, finish}
@@ -23,6 +23,7 @@ use Rattle.table_search.specs.declared.find.Found.{Found}
 use Rattle.table_search.specs.declared.find.Found.the-variants.{At, Vacant}
 use Rattle.table.specs.Changes.{Opening, inserted}
 use Rattle.table_laws.specs.DecoderChanges.{missing}
+use Rattle.table_laws.proofs.Room.{room-claim}
 use Rattle.decoder.proofs.Standing.{Stands, Leaves, steps, changes, low-limit, stays}
 use Rattle.decoder_insert.specs.declared.insert.Judged.{Judged}
 use Rattle.decoder_insert.specs.declared.insert.Judged.the-variants.{Room, Refused}
@@ -37,19 +38,15 @@ module _ (m : List ℕ) (x entry place : ℕ) where
 
   module _ (e : findFrom m x (countOf m) 0 ≡ Vacant place) where
     judged-vacant : judged m x entry
-        ≡ need (leb (heldOf m + entry) (limitOf m)) (Refused over-limit) (need (ltb (countOf m) 128) (Refused full) (Room place))
+        ≡ need (leb (heldOf m + entry) (limitOf m)) (Refused over-limit) (Room place)
     unfolding judged
     judged-vacant = ap (judgeFound m entry) e
 
     pub judged-over : leb (heldOf m + entry) (limitOf m) ≡ false → judged m x entry ≡ Refused over-limit
     judged-over h = judged-vacant ∙ need-false _ _ _ h
 
-    module _ (room : leb (heldOf m + entry) (limitOf m) ≡ true) where
-      pub judged-full : 128 ≤ countOf m → judged m x entry ≡ Refused full
-      judged-full h = judged-vacant ∙ need-true _ _ _ room ∙ need-false _ _ _ (le-ltb (countOf m) 128 h)
-
-      pub judged-room : countOf m < 128 → judged m x entry ≡ Room place
-      judged-room h = judged-vacant ∙ need-true _ _ _ room ∙ need-true _ _ _ (lt-ltb (countOf m) 128 h)
+    pub judged-room : leb (heldOf m + entry) (limitOf m) ≡ true → judged m x entry ≡ Room place
+    judged-room h = judged-vacant ∙ need-true _ _ _ h
 
 -- ---- the judge's answer beside the model's
 
@@ -73,7 +70,6 @@ module _ (m : List ℕ) (st : Stands m) (x : ℕ) (name value : List ℕ) (taken
   record Vacancy (place : ℕ) : Type 0 where
     vacant : missing m x place
     room : heldOf m + entry ≤ limitOf m
-    few : countOf m < 128
 
   abbrev Agree : Judged → Outcome Decoder → Type 0
   Agree (Room place) o = Vacancy place × (o ≡ finish grown taken 0 nothing)
@@ -90,11 +86,9 @@ module _ (m : List ℕ) (st : Stands m) (x : ℕ) (name value : List ℕ) (taken
   agree-found (Vacant place) e =
       let C = changes m st in
       subst (Agree (judgeFound m entry (Vacant place))) (sym (need-true _ _ _ (ap (λ (o : Option Held). not (isSome o)) (C .nowhere x place e))))
-      (agree-need (leb (heldOf m + entry) (limitOf m)) (leb (heldSize (decoderOf m .entries) + entry) (decoderOf m .limit)) (Refused over-limit) _
-      (refuse (decoderOf m) over-limit) _ (ap₂ leb (ap (λ (h : ℕ). h + entry) (C .held)) (C .limit)) refl
-      (λ room. agree-need (ltb (countOf m) 128) (ltb (length (decoderOf m .entries)) 128) (Refused full) (Room place)
-      (refuse (decoderOf m) full) (finish grown taken 0 nothing) (ap (λ (k : ℕ). ltb k 128) (C .count)) refl
-      (λ few. (record { vacant = e; room = leb-true _ _ room; few = ltb-true _ _ few }, refl))))
+      (agree-need (leb (heldOf m + entry) (limitOf m)) (leb (heldSize (decoderOf m .entries) + entry) (decoderOf m .limit)) (Refused over-limit) (Room place)
+      (refuse (decoderOf m) over-limit) (finish grown taken 0 nothing) (ap₂ leb (ap (λ (h : ℕ). h + entry) (C .held)) (C .limit)) refl
+      (λ room. (record { vacant = e; room = leb-true _ _ room }, refl)))
 
   module _ (n v : ℕ) (j : Judged) (J : Judgement m x name value n v j) where
     agree : Agree j model
@@ -118,9 +112,10 @@ module _ (m : List ℕ) (st : Stands m) (x : ℕ) (name value : List ℕ) (taken
 
       -- "otherwise room is always found"
       pub insert-opening : Opening m place n v
-      insert-opening = changes m st .opening x place n v insert-vacant fits (admitted .0 .few)
+      insert-opening = changes m st .opening x place n v insert-vacant fits (room-claim .decoder m (st .forms) (n + v) fits)
 
       pub insert-done : FineIndex x → Leaves (namedInsert m x name value taken) (done taken 0) (inserted m place x name value)
       insert-done fine =
           steps m model grown taken 0 _ (admitted .1)
-          (changes m st .insert x place name value insert-vacant fine (omega (arith, fits, J .name-is, J .value-is)) (admitted .0 .few))
+          (changes m st .insert x place name value insert-vacant fine (omega (arith, fits, J .name-is, J .value-is))
+          (room-claim .decoder m (st .forms) (n + v) fits))

@@ -2,9 +2,9 @@
 use Prim.Native.Nat.{ℕ, _+_}
 use mathlib.Core.Option.{some}
 use mathlib.Core.List.{List, []}
-use lib.Dec.{leb, ltb}
+use lib.Dec.{leb}
 use Rattle.memory.specs.Choice.{need}
-use Rattle.integers.specs.Answers.{held, over-limit, full}
+use Rattle.integers.specs.Answers.{held, over-limit}
 use Rattle.wire.specs.Name.{indexed}
 use Rattle.model.specs.Decoder.{lookup, nameBytes, insertNamed}
 use Rattle.state.specs.Layout.{limitOf, heldOf, countOf}
@@ -25,10 +25,10 @@ abbrev pub indexedInsert : List ℕ → ℕ → ℕ → List ℕ → ℕ → Res
 indexedInsert m index named value taken =
     stepped overlayDecoder m [] (insertNamed (decoderOf m) index value taken (nameBytes (lookup (decoderOf m)) (indexed named)))
 
--- "insert .. 6, 7, 15": where an entry of this size goes, or the refusal
+-- insert .. 6, 7: where an entry of this size goes, or the refusal
 abbrev pub judgeFound : List ℕ → ℕ → Found → Judged
 judgeFound m size (At place) = Refused held
-judgeFound m size (Vacant place) = need (leb (heldOf m + size) (limitOf m)) (Refused over-limit) (need (ltb (countOf m) 128) (Refused full) (Room place))
+judgeFound m size (Vacant place) = need (leb (heldOf m + size) (limitOf m)) (Refused over-limit) (Room place)
 
 unfoldable pub judged : List ℕ → ℕ → ℕ → Judged
 judged m index size = judgeFound m size (findFrom m index (countOf m) 0)

@@ -1,4 +1,4 @@
-// An insert that was read, done on the table: 8, 6, 7, 15. Its name is a string of the input, that of a static entry, or that of an entry of the table.
+// An insert that was read, done on the table: 8, 6, 7. Its name is a string of the input, that of a static entry, or that of an entry of the table.
 ghost use mathlib.Core.Path.{_≡_};
 ghost use mathlib.Core.Bool.{true};
 ghost use Prim.Native.Nat.{_≤_, _<_};
@@ -16,7 +16,6 @@ use entry_places::place::locate;
 use integers::answer;
 use integers::number::TableIndex;
 use reply::Reply;
-use state::head::count_of;
 use state::layout;
 use state::row::name_length_at;
 use statics::table::static_name;
@@ -46,7 +45,7 @@ impl Judged {
     }
 }
 
-// Judges an insert of an entry of this size: 6, 7, 15.
+// Judges an insert of an entry of this size: 6, 7.
 fn judge(m: &[u8], index: TableIndex, size: usize) -> Judged
     requires { ⌜ (62 ≤ index .value) × (size < 65536) × (formsDecoder (now m) ≡ true) ⌝ }
     ensures { λ r. ⌜ r ≡ judged (now (m .entry)) (index .value) size ⌝ }
@@ -57,9 +56,6 @@ fn judge(m: &[u8], index: TableIndex, size: usize) -> Judged
     };
     if !fits(m, size) {
         return Judged::Refused(answer::OVER_LIMIT);
-    }
-    if layout::PLACES <= (count_of(m) as usize) {
-        return Judged::Refused(answer::FULL);
     }
     Judged::Room(place)
 }

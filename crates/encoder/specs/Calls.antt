@@ -26,7 +26,7 @@ startCall m limit =
     (need (leb encoderLength (length m)) (refused m [] no-room)
     (record { answer = done 0 0; memory = overlayEncoder (startEncoder limit) m; output = [] }))
 
--- "Encoder insert 13, 7, 15, 12": name and value as plain bytes; it tells the bytes written and the new index
+-- encoder insert 13, 7, 12: name and value as plain bytes; it tells the bytes written and the new index
 unfoldable pub insertCall : List ℕ → List ℕ → List ℕ → List ℕ → Result
 insertCall m name value out =
     need (formsEncoder m) (refused m out no-state) (stepped overlayEncoder m out (insertEntry (encoderOf m) name value (length out)))

@@ -6,10 +6,10 @@ use native.Mathlib.Omega.{arith}
 use mathlib.Core.Bool.{true, false}
 use mathlib.Core.List.{List}
 use lib.ListN.{length}
-use borrow.Author.Tests.{le-leb, lt-leb, lt-ltb, le-ltb}
+use borrow.Author.Tests.{le-leb, lt-leb}
 use Rattle.memory.specs.Bytes.{Small, overlay}
 use Rattle.memory.proofs.Order.{need-true, need-false}
-use Rattle.integers.specs.Answers.{done, no-state, too-long, over-limit, full, no-room}
+use Rattle.integers.specs.Answers.{done, no-state, too-long, over-limit, no-room}
 use Rattle.wire.specs.Name.{Name}
 use Rattle.instructions.specs.Instruction.{insert, instructionWire}
 use Rattle.model.specs.Table.{size, put, vacantFrom}
@@ -20,6 +20,7 @@ use Rattle.state.specs.EncoderState.{encoderOf, overlayEncoder}
 use Rattle.state.specs.Forms.{formsEncoder}
 use Rattle.table_search.specs.Search as memory
 use Rattle.table.specs.Changes.{inserted}
+use Rattle.table_laws.proofs.Room.{room-claim}
 use Rattle.deletes.specs.Deletes.{unreferred}
 use Rattle.reply.specs.Result.{refused, stepped}
 use Rattle.encoder.specs.Calls.{insertCall}
@@ -42,17 +43,10 @@ module _ (E : Encoder) (name value : List ℕ) (room : ℕ) where
       unfolding insertEntry size
       limit-passed h = need-true _ _ _ (le-leb _ _ n) ∙ need-true _ _ _ (le-leb _ _ v) ∙ need-false _ _ _ (lt-leb _ _ h)
 
-      module _ (w : sentSize (E .entries) + (length name + length value + 32) ≤ E .limit) where
-        places-held : 128 ≤ length (E .entries) → insertEntry E name value room ≡ refuse E full
-        unfolding insertEntry size
-        places-held h =
-            need-true _ _ _ (le-leb _ _ n) ∙ need-true _ _ _ (le-leb _ _ v) ∙ need-true _ _ _ (le-leb _ _ w) ∙ need-false _ _ _ (le-ltb _ _ h)
-
-        place-left : length (E .entries) < 128
-            → insertEntry E name value room ≡ insertAt E (vacantFrom sentIndex 62 (E .entries)) name value room
-        unfolding insertEntry size
-        place-left h =
-            need-true _ _ _ (le-leb _ _ n) ∙ need-true _ _ _ (le-leb _ _ v) ∙ need-true _ _ _ (le-leb _ _ w) ∙ need-true _ _ _ (lt-ltb _ _ h)
+      limit-kept : sentSize (E .entries) + (length name + length value + 32) ≤ E .limit
+          → insertEntry E name value room ≡ insertAt E (vacantFrom sentIndex 62 (E .entries)) name value room
+      unfolding insertEntry size
+      limit-kept h = need-true _ _ _ (le-leb _ _ n) ∙ need-true _ _ _ (le-leb _ _ v) ∙ need-true _ _ _ (le-leb _ _ h)
 
   module _ (i : ℕ) (chosen : Name) (e : chosen ≡ chooseName (E .entries) name) where
     abbrev wire : List ℕ
@@ -104,28 +98,23 @@ module _ (m : List ℕ) (small : Small m) (forms : formsEncoder m ≡ true) (nam
           refuses over-limit
           (limit-passed E name value (length out) n v (omega (arith, changes m small forms .limit, changes m small forms .held)))
 
-      pub insert-full : heldOf m + (length name + length value + 32) ≤ limitOf m → 128 ≤ countOf m
-          → insertCall m name value out ≡ refused m out full
-      insert-full w h =
-          refuses full
-          (places-held E name value (length out) n v (omega (arith, changes m small forms .limit, changes m small forms .held))
-          (omega (arith, changes m small forms .count)))
-
   pub insert-fitting : Fitting m name value → insertCall m name value out ≡ fittingInsert m name value out
   insert-fitting f =
       steps (insertAt E (vacantFrom sentIndex 62 (E .entries)) name value (length out))
-      (place-left E name value (length out) (f .name-short) (f .value-short)
-      (omega (arith, changes m small forms .limit, changes m small forms .held, f .limit))
-      (omega (arith, changes m small forms .count, f .few)))
+      (limit-kept E name value (length out) (f .name-short) (f .value-short)
+      (omega (arith, changes m small forms .limit, changes m small forms .held, f .limit)))
 
-  -- the table has room for it, and a vacant place
+  -- the table has room for it, and a vacant place, since the limit leaves one
+  place-left : heldOf m + (length name + length value + 32) ≤ 4096 → countOf m < 128
+  place-left = room-claim .encoder m forms (length name + length value)
+
   pub fitting-held : Fitting m name value → heldOf m + (length name + length value + 32) ≤ 4096
   fitting-held f = omega (arith, f .limit, limit-low m small forms)
 
   pub fitting-place : Fitting m name value → memory.vacantRow m (countOf m) 0 < 128
   fitting-place f =
-      let few = f .few in
-      omega (arith, changes m small forms .opening (length name) (length value) (fitting-held f) (omega arith) .below)
+      let few = place-left (fitting-held f) in
+      omega (arith, changes m small forms .opening (length name) (length value) (fitting-held f) few .below)
 
   -- ---- an entry that fits, its index i at the lowest vacant place, its name as chosen
   module _ (place i : ℕ) (p : place ≡ memory.vacantRow m (countOf m) 0) (q : i ≡ 62 + place)
@@ -143,15 +132,15 @@ module _ (m : List ℕ) (small : Small m) (forms : formsEncoder m ≡ true) (nam
         ∙ stays m small forms out no-room
 
     -- the memory that the entry put in leaves
-    entered : heldOf m + (length name + length value + 32) ≤ 4096 → countOf m < 128
+    entered : heldOf m + (length name + length value + 32) ≤ 4096
         → overlayEncoder (withSent E (put sentIndex (newSent i name value) (E .entries))) m ≡ unreferred (inserted m place i name value) i
-    entered h few =
+    entered h =
         ap (λ (j : ℕ). overlayEncoder (withSent E (put sentIndex (newSent j name value) (E .entries))) m) (sym vacant)
-        ∙ sym (changes m small forms .insert name value h few)
+        ∙ sym (changes m small forms .insert name value h (place-left h))
         ∙ ap (λ (j : ℕ). unreferred (inserted m j (62 + j) name value) (62 + j)) (sym p)
         ∙ ap (λ (j : ℕ). unreferred (inserted m place j name value) j) (sym q)
 
-    pub fitting-done : n ≤ length out → heldOf m + (length name + length value + 32) ≤ 4096 → countOf m < 128
+    pub fitting-done : n ≤ length out → heldOf m + (length name + length value + 32) ≤ 4096
         → fittingInsert m name value out
         ≡ record {
           answer = done n i;
@@ -159,11 +148,11 @@ module _ (m : List ℕ) (small : Small m) (forms : formsEncoder m ≡ true) (nam
           output = overlay out 0 (instructionWire (insert i chosen value));
         }
     unfolding stepped outputBytes
-    fitting-done h k few =
+    fitting-done h k =
         fits-at
         ∙ ap (λ (o : Outcome Encoder). stepped overlayEncoder m out o) (at-room E name value (length out) i chosen e (omega arith))
         ∙ (λ t. record {
           answer = done (sym s t) i;
-          memory = entered k few t;
+          memory = entered k t;
           output = overlay out 0 (instructionWire (insert i chosen value));
         })

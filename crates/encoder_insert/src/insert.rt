@@ -1,7 +1,7 @@
-// The insert call: name and value as plain bytes in, the instruction out: 17, 13, 7, 15, 12.
+// The insert call: name and value as plain bytes in, the instruction out: 17, 13, 7, 12.
 ghost use mathlib.Core.Path.{_≡_};
 ghost use mathlib.Core.Bool.{true};
-ghost use Prim.Native.Nat.{ℕ, _+_, _≤_, _<_};
+ghost use Prim.Native.Nat.{ℕ, _+_, _≤_};
 ghost use lib.ListN.{length};
 ghost use Rattle.wire.specs.Text.{wireSize};
 ghost use Rattle.state.specs.Layout.{countOf, heldOf};
@@ -18,7 +18,6 @@ use encoder_fields::name::NameChoice;
 use encoder_fields::name::choose_name;
 use instructions::write::write_insert_index;
 use instructions::write::write_insert_text;
-use integers::answer::FULL;
 use integers::answer::NO_ROOM;
 use integers::answer::NO_STATE;
 use integers::answer::OVER_LIMIT;
@@ -26,9 +25,7 @@ use integers::answer::TOO_LONG;
 use integers::number::TableIndex;
 use reply::Reply;
 use state::encoder::forms_encoder;
-use state::head::count_of;
 use state::layout::ENTRY_SIZE;
-use state::layout::PLACES;
 use table_rows::fits;
 use table_search::find::lowest_vacant;
 use wire::text::NAME_LIMIT;
@@ -53,14 +50,14 @@ fn insert_text_size(index: TableIndex, name: &[u8], value: &[u8]) -> usize
 // Puts the entry in at its place, referred to by no block.
 fn enter(m: &mut [u8], place: usize, index: TableIndex, name: &[u8], value: &[u8])
     requires { ⌜ (place ≡ vacantRow (now m) (countOf (now m)) 0) × (index .value ≡ 62 + place) × (formsEncoder (now m) ≡ true) ⌝ }
-    requires { ⌜ (heldOf (now m) + (length (now name) + length (now value) + 32) ≤ 4096) × (countOf (now m) < 128) ⌝ }
+    requires { ⌜ heldOf (now m) + (length (now name) + length (now value) + 32) ≤ 4096 ⌝ }
     ensures { λ _. ⌜ now (m .exit) ≡ unreferred (inserted (now (m .entry)) place (index .value) (now (name .entry)) (now (value .entry))) (index .value) ⌝ }
 {
     table::insert::insert(m, place, index, name, value);
     unrefer(m, index);
 }
 
-// An entry that keeps the limit, with a place left: 12, or its insert.
+// An entry that keeps the limit: 12, or its insert.
 fn insert_fitting(m: &mut [u8], name: &[u8], value: &[u8], out: &mut [u8]) -> Reply
     requires { ⌜ formsEncoder (now m) ≡ true ⌝ }
     requires { ⌜ Fitting (now m) (now name) (now value) ⌝ }
@@ -110,9 +107,6 @@ pub fn insert(m: &mut [u8], name: &[u8], value: &[u8], out: &mut [u8]) -> Reply
     let size = name.len() + value.len() + ENTRY_SIZE;
     if !fits(m, size) {
         return Reply::refused(OVER_LIMIT);
-    }
-    if PLACES <= (count_of(m) as usize) {
-        return Reply::refused(FULL);
     }
     insert_fitting(m, name, value, out)
 }

@@ -73,9 +73,7 @@ too-long = 13
 abbrev pub bad-stream-list : ℕ
 bad-stream-list = 14
 
--- all 128 places held
-abbrev pub full : ℕ
-full = 15
+-- 15 is not given: an insert that finds all 128 places held is 7
 
 -- field list not in our form
 abbrev pub bad-field-list : ℕ

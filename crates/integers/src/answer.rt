@@ -43,8 +43,7 @@ pub const TOO_LONG: u8 = 13;
 // A bad stream list.
 pub const BAD_STREAM_LIST: u8 = 14;
 
-// All 128 places are held.
-pub const FULL: u8 = 15;
+// 15 is not given: an insert that finds all 128 places held passes the limit, which is judged first.
 
 // The field list is not in its form.
 pub const BAD_FIELD_LIST: u8 = 16;

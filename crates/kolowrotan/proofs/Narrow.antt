@@ -58,8 +58,7 @@ read-narrow D (insert i name value) taken = go (nameBytes (lookup D) name)
     go none = omega arith
     go (some xs) =
         step (not (isSome (look heldIndex i (D .entries)))) _ _ _
-        (step (leb (heldSize (D .entries) + size (record { name = xs; value = value })) (D .limit)) _ _ _
-        (step (ltb (length (D .entries)) 128) _ _ _ (omega arith)))
+        (step (leb (heldSize (D .entries) + size (record { name = xs; value = value })) (D .limit)) _ _ _ (omega arith))
 read-narrow D (delete i nontrailer trailer) taken =
     step (isSome (look heldIndex i (D .entries))) _ _ _
     (step (not (isSome (deleteOf D i))) _ _ _ (omega arith))

@@ -1,14 +1,14 @@
--- The same of the encoder's calls: the second told number is 0, but for an insert, which tells its index: at most 189, since a place was left.
-use Prim.Native.Nat.{ℕ, _+_}
+-- The same of the encoder's calls: the second told number is 0, but for an insert, which tells its index: at most 189, since the limit leaves a place.
+use Prim.Native.Nat.{ℕ, _+_, _≤_}
 use native.Mathlib.Omega.{arith}
 use mathlib.Core.Bool.{not}
 use mathlib.Core.Option.{Option, none, some}
 use mathlib.Core.List.{List, [], map}
 use lib.ListN.{length}
 use lib.Dec.{leb, ltb}
-use borrow.Author.Tests.{ltb-true}
+use borrow.Author.Tests.{leb-true}
 use Rattle.memory.proofs.Order.{need-both}
-use Rattle.integers.specs.Answers.{full}
+use Rattle.integers.specs.Answers.{over-limit}
 use Rattle.integers.specs.Integer.{largest}
 use Rattle.fields.specs.Form.{Field}
 use Rattle.fields.specs.Reading.{FieldListRead, list, readFieldList}
@@ -31,23 +31,23 @@ use Rattle.state.specs.EncoderState.{encoderOf, overlayEncoder}
 use Rattle.state.specs.Forms.{formsEncoder}
 use Rattle.parts.specs.Turn.{partTurn}
 use Rattle.reply.specs.Reply.{Narrow}
-use Rattle.reply.specs.Result.{refused, stepped}
+use Rattle.reply.specs.Result.{Result, refused, stepped}
 use Rattle.encoder.specs.Calls.{startCall, insertCall, deleteCall, onList, blockCall, acknowledged, acknowledgeCall}
+use Rattle.places.proofs.PlacesClaim.{sent-places, sent-limit}
 use Rattle.kolowrotan.proofs.Narrow.{step, call}
 
 -- ---- the encoder's steps
 
-insert-narrow : (E : Encoder) (name value : List ℕ) (room : ℕ) → Narrow (insertEntry E name value room .answer)
+insert-narrow : (E : Encoder) → E .limit ≤ 4096 → (name value : List ℕ) (room : ℕ) → Narrow (insertEntry E name value room .answer)
 unfolding insertEntry insertAt
-insert-narrow E name value room =
+insert-narrow E limit name value room =
     step (leb (length name) 255) _ _ _
     (step (leb (length value) 2047) _ _ _
-    (step (leb (sentSize (E .entries) + size (record { name = name; value = value })) (E .limit)) _ _ _
-    (need-both (λ (o : Outcome Encoder). Narrow (o .answer)) (ltb (length (E .entries)) 128) (refuse E full)
-    (insertAt E (vacantFrom sentIndex 62 (E .entries)) name value room) (λ e. omega arith)
-    (λ e. let few = ltb-true (length (E .entries)) 128 e in
+    (need-both (λ (o : Outcome Encoder). Narrow (o .answer)) (leb (sentSize (E .entries) + size (record { name = name; value = value })) (E .limit))
+    (refuse E over-limit) (insertAt E (vacantFrom sentIndex 62 (E .entries)) name value room) (λ e. omega arith)
+    (λ e. let few = sent-places E limit (record { name = name; value = value }) (leb-true _ _ e) in
     let low = vacant-high sentIndex 62 (E .entries) in
-    step (leb (length (instructionWire (insert (vacantFrom sentIndex 62 (E .entries)) (chooseName (E .entries) name) value))) room) _ _ _ (omega arith)))))
+    step (leb (length (instructionWire (insert (vacantFrom sentIndex 62 (E .entries)) (chooseName (E .entries) name) value))) room) _ _ _ (omega arith))))
 
 delete-narrow : (E : Encoder) (i room : ℕ) → Narrow (deleteSent E i room .answer)
 unfolding deleteSent deleteFound
@@ -86,7 +86,9 @@ encoder-start m limit = call (leb limit 4096) _ _ _ _ (call (leb encoderLength (
 
 pub encoder-insert : (m name value out : List ℕ) → Narrow (insertCall m name value out .answer)
 unfolding insertCall stepped
-encoder-insert m name value out = call (formsEncoder m) _ _ _ _ (insert-narrow (encoderOf m) name value (length out))
+encoder-insert m name value out =
+    need-both (λ (r : Result). Narrow (r .answer)) (formsEncoder m) _ _ (λ f. omega arith)
+    (λ forms. insert-narrow (encoderOf m) (sent-limit m forms) name value (length out))
 
 pub encoder-delete : (m : List ℕ) (index : ℕ) (out : List ℕ) → Narrow (deleteCall m index out .answer)
 unfolding deleteCall stepped

@@ -10,7 +10,7 @@ use lib.ListN.{length}
 use lib.Dec.{ltb, leb}
 use borrow.Author.Tests.{leb-true}
 use Rattle.memory.proofs.Order.{pick-both}
-use Rattle.integers.specs.Answers.{not-allowed, held, over-limit, vacant, under-deletion, not-under-deletion, out-of-turn, no-room, full}
+use Rattle.integers.specs.Answers.{not-allowed, held, over-limit, vacant, under-deletion, not-under-deletion, out-of-turn, no-room}
 use Rattle.integers.specs.Integer.{largest}
 use Rattle.statics.specs.Table.{Entry, entryAt}
 use Rattle.statics.proofs.Places.{name-most, value-most}
@@ -70,8 +70,7 @@ module _ (D : Decoder) (s : List ℕ) (taken : ℕ) (inside : taken ≤ length s
   insert-says i value none = refusal-says (reading s) D vacant tt
   insert-says i value (some name) =
       refusing (reading s) D (not (isSome (look heldIndex i (D .entries)))) held tt
-      (λ e. refusing (reading s) D (leb (heldSize (D .entries) + size (record { name = name; value = value })) (D .limit)) over-limit tt
-      (λ f. refusing (reading s) D (ltb (length (D .entries)) 128) full tt (λ g. took _)))
+      (λ e. refusing (reading s) D (leb (heldSize (D .entries) + size (record { name = name; value = value })) (D .limit)) over-limit tt (λ f. took _))
 
   read-says : (i : Instruction) → Says (reading s) (readInstruction D i taken)
   unfolding readInstruction deleteEntry

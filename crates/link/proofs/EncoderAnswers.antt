@@ -9,9 +9,9 @@ use mathlib.Core.Option.{Option, none, some}
 use mathlib.Core.List.{List, [], _∷_, map}
 use lib.ListN.{length}
 use lib.Dec.{ltb, leb}
-use borrow.Author.Tests.{ltb-true, leb-true}
+use borrow.Author.Tests.{leb-true}
 use Rattle.memory.proofs.Order.{pick-both}
-use Rattle.integers.specs.Answers.{not-allowed, over-limit, vacant, under-deletion, not-under-deletion, out-of-turn, no-room, too-long, bad-field-list, full}
+use Rattle.integers.specs.Answers.{not-allowed, over-limit, vacant, under-deletion, not-under-deletion, out-of-turn, no-room, too-long, bad-field-list}
 use Rattle.integers.specs.Integer.{largest}
 use Rattle.integers.proofs.Told.{One}
 use Rattle.fields.specs.Form.{Field}
@@ -66,14 +66,13 @@ module _ (E : Encoder) (F : FormsEncoder E) where
       refusing c E (leb (length name) 255) too-long tt
       (λ n. refusing c E (leb (length value) 2047) too-long tt
       (λ v. refusing c E (leb (sentSize (E .entries) + size (record { name = name; value = value })) (E .limit)) over-limit tt
-      (λ g. refusing c E (ltb (length (E .entries)) 128) full tt
-      (λ few. refusing c E (leb (length bytes) (length out)) no-room tt
-      (λ fits. let x = new-fine E i name value refl (leb-true _ _ n) (leb-true _ _ v) (ltb-true _ _ few) in
+      (λ g. refusing c E (leb (length bytes) (length out)) no-room tt
+      (λ fits. let x = new-fine E (F .limit) i name value refl (leb-true _ _ n) (leb-true _ _ v) (leb-true _ _ g) in
       let fine = name-fine (E .entries) (F .order) (F .entries) name (leb-true _ _ n) in
       both-say c _ (length bytes) i (instruction (insert i (chooseName (E .entries) name) value)) refl (λ e. nope (cc)) (λ e. nope (cc))
       (leb-true _ _ fits)
       (omega (arith, insert-size i (chooseName (E .entries) name) value ((x .low, omega (arith, x .high)), fine, leb-true _ _ v)))
-      (omega (arith, x .high)))))))
+      (omega (arith, x .high))))))
 
   -- ---- a delete: its bytes are told
   delete-says : (i : ℕ) (out : List ℕ) (o : Option Sent) → look sentIndex i (E .entries) ≡ o → Says (deleting i out) (deleteFound E (length out) o)

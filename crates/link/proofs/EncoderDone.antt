@@ -49,7 +49,7 @@ module _ (E : Encoder) where
       (λ (o : Outcome Encoder). o .answer .number ≡ 0
       → (o .answer .second ≡ vacantFrom sentIndex 62 (E .entries))
       × (outputBytes (o .output) ≡ instructionWire (insert (o .answer .second) (chooseName (E .entries) name) value)))
-      E (λ a z e. absurd (eqb-false (a .number) 0 z e)) name value room (λ i q n v fits few written e. (q, refl))
+      E (λ a z e. absurd (eqb-false (a .number) 0 z e)) name value room (λ i q n v fits written e. (q, refl))
 
   delete-done : (i room : ℕ) → let o = encoderCall E (at-encoder.delete i room) in o .answer .number ≡ 0
       → (e : Sent) × (look sentIndex i (E .entries) ≡ some e) × (outputBytes (o .output) ≡ instructionWire (deleteOfSent e))

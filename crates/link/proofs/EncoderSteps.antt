@@ -71,7 +71,7 @@ module _ (E : Encoder) (F : FormsEncoder E) (r : Result) where
       insert-ways
       (λ (o : Outcome Encoder). insertEntry E name value (length out) ≡ o → Left r out o → TiedStep (Event.byEncoder c r) (saidBy (o .output)))
       E (λ a z e l. unsaid c tt r a z (l .answer)) name value (length out)
-      (λ i d n v fits few room e l.
+      (λ i d n v fits room e l.
       saying c tt r out _ i
       (said-fine E (at-encoder.insert name value (length out)) F _ (ap (λ (o : Outcome Encoder). o .output) e)) room (l .answer) (l .output))
       refl

@@ -46,7 +46,7 @@ module _ (D : Decoder) where
 
   read-keeps : (i : Instruction) (taken : ℕ) → Kept (decoderCall D (at-decoder.read i taken))
   unfolding decoderCall
-  read-keeps (insert i name value) taken = ways.insert-ways Kept D (λ a z. refl) i name value taken (λ xs e n f g. refl)
+  read-keeps (insert i name value) taken = ways.insert-ways Kept D (λ a z. refl) i name value taken (λ xs e n f. refl)
   read-keeps (delete i first last) taken = ways.delete-ways Kept D (λ a z. refl) i first last taken (λ h e f. refl)
   read-keeps (acknowledge i) taken = ways.acknowledge-ways Kept D (λ a z. refl) i taken
 

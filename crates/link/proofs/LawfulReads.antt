@@ -35,7 +35,7 @@ module _ (D : Decoder) where
   unfolding decoderCall isHeld slotIn
   lawful-call (insert i name value) taken =
       ways.insert-ways (Allowed (insert i name value)) D (λ a z e. absurd (eqb-false (a .number) 0 z e)) i name value taken
-      (λ xs e n f g z. (ap (λ (o : Option Held). isHeld (slotIn o)) n, tt))
+      (λ xs e n f z. (ap (λ (o : Option Held). isHeld (slotIn o)) n, tt))
   lawful-call (delete i first last) taken =
       ways.delete-ways (Allowed (delete i first last)) D (λ a z e. absurd (eqb-false (a .number) 0 z e)) i first last taken
       (λ h e f z. (ap (λ (o : Option Held). isHeld (slotIn o)) e, f, tt))

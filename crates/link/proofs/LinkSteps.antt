@@ -53,7 +53,7 @@ use Rattle.link.proofs.EncoderSteps.{encoder-step}
 read-taken : (D : Decoder) (i : Instruction) (taken : ℕ) → readInstruction D i taken .answer .number ≡ 0 → readInstruction D i taken .answer .first ≡ taken
 read-taken D (insert i name value) taken =
     ways.insert-ways (λ (o : Outcome Decoder). o .answer .number ≡ 0 → o .answer .first ≡ taken) D
-    (λ a z e. absurd (eqb-false (a .number) 0 z e)) i name value taken (λ xs d free fits few e. refl)
+    (λ a z e. absurd (eqb-false (a .number) 0 z e)) i name value taken (λ xs d free fits e. refl)
 read-taken D (delete i nontrailer trailer) taken =
     ways.delete-ways (λ (o : Outcome Decoder). o .answer .number ≡ 0 → o .answer .first ≡ taken) D
     (λ a z e. absurd (eqb-false (a .number) 0 z e)) i nontrailer trailer taken (λ h there free e. refl)

@@ -71,7 +71,7 @@ Unmarked o = MarksBelow (o .state .finished)
 
 decoder-marks : (D : Decoder) → MarksBelow (D .finished) → (c : at-decoder.DecoderCall) → Unmarked (decoderCall D c)
 unfolding decoderCall without
-decoder-marks D B (at-decoder.read (insert i name value) taken) = decoder.insert-ways Unmarked D (λ a z. B) i name value taken (λ xs e n f g. B)
+decoder-marks D B (at-decoder.read (insert i name value) taken) = decoder.insert-ways Unmarked D (λ a z. B) i name value taken (λ xs e n f. B)
 decoder-marks D B (at-decoder.read (delete i nontrailer trailer) taken) = decoder.delete-ways Unmarked D (λ a z. B) i nontrailer trailer taken (λ h e f. B)
 decoder-marks D B (at-decoder.read (acknowledge i) taken) = decoder.acknowledge-ways Unmarked D (λ a z. B) i taken
 decoder-marks D B (at-decoder.block s part rs room) =
@@ -108,7 +108,7 @@ decoder-bytes : (D : Decoder) → Each SmallHeld (D .entries) → (c : at-decode
 unfolding decoderCall without
 decoder-bytes D S (at-decoder.read (insert i name value) taken) b =
     decoder.insert-ways HeldBytes D (λ a z. S) i name value taken
-    (λ xs e n f g. each-put SmallHeld heldIndex (newHeld i xs value) (D .entries) (found-small D S name (b .0) xs e, b .1) S)
+    (λ xs e n f. each-put SmallHeld heldIndex (newHeld i xs value) (D .entries) (found-small D S name (b .0) xs e, b .1) S)
 decoder-bytes D S (at-decoder.read (delete i nontrailer trailer) taken) b = decoder.delete-ways HeldBytes D (λ a z. S) i nontrailer trailer taken (λ h e f. S)
 decoder-bytes D S (at-decoder.read (acknowledge i) taken) b = decoder.acknowledge-ways HeldBytes D (λ a z. S) i taken
 decoder-bytes D S (at-decoder.block s part rs room) b =
@@ -147,7 +147,7 @@ Unwritten o = MarksBelow (o .state .written)
 
 encoder-marks : (E : Encoder) → MarksBelow (E .written) → (c : at-encoder.EncoderCall) → Unwritten (encoderCall E c)
 unfolding encoderCall
-encoder-marks E B (at-encoder.insert name value room) = encoder.insert-ways Unwritten E (λ a z. B) name value room (λ i e n v fits few w. B)
+encoder-marks E B (at-encoder.insert name value room) = encoder.insert-ways Unwritten E (λ a z. B) name value room (λ i e n v fits w. B)
 encoder-marks E B (at-encoder.delete i room) = encoder.delete-ways Unwritten E (λ a z. B) i room (λ e there still fits. B)
 encoder-marks E B (at-encoder.block s part fs room) =
     encoder.block-ways Unwritten E (λ a z. B) s part fs room (λ p rs chosen e below turn short fits. mark-below s below (E .written) B p)
@@ -161,7 +161,7 @@ encoder-bytes : (E : Encoder) → Each SmallSent (E .entries) → (c : at-encode
 unfolding encoderCall
 encoder-bytes E S (at-encoder.insert name value room) b =
     encoder.insert-ways SentBytes E (λ a z. S) name value room
-    (λ i e n v fits few w. each-put SmallSent sentIndex (newSent i name value) (E .entries) b S)
+    (λ i e n v fits w. each-put SmallSent sentIndex (newSent i name value) (E .entries) b S)
 encoder-bytes E S (at-encoder.delete i room) b =
     encoder.delete-ways SentBytes E (λ a z. S) i room
     (λ e there still fits. each-map SmallSent SmallSent (markDeleted (e .index)) (λ x p. rw (delete-entry (e .index) x) p) (E .entries) S)

@@ -46,7 +46,7 @@ module _ (limit : ℕ) (D : Decoder) (F : FormsDecoder D) (W : Within limit D) w
   unfolding decoderCall without nextFreed heldSize
   within-call (at-decoder.read (insert i name value) taken) =
       decoding.insert-ways Stays D (λ a z. W) i name value taken
-      (λ xs e n fits few. record {
+      (λ xs e n fits. record {
         held = omega (arith, total-put heldIndex heldWeight (decoding.newHeld i xs value) (D .entries), fits, W .same);
         same = W .same;
       })
@@ -98,7 +98,7 @@ module _ (limit : ℕ) (E : Encoder) (W : Below limit E) where
   unfolding encoderCall sentSize
   below-call (at-encoder.insert name value room) =
       encoding.insert-ways Keeps E (λ a z. W) name value room
-      (λ i e n v fits few w. record {
+      (λ i e n v fits w. record {
         held = omega (arith, total-put sentIndex sentWeight (newSent i name value) (E .entries), fits, W .same);
         same = W .same;
       })

@@ -16,14 +16,14 @@ use Rattle.link.specs.Calls as calls
 
 -- ---- the numbers that a call may answer, in the order in which they are judged: the "Answers" lines of include/kolowrotan.h
 abbrev pub decoderAnswers : DecoderCall → List ℕ
-decoderAnswers (calls.DecoderCall.read s) = 17 ∷ 2 ∷ 3 ∷ 19 ∷ 5 ∷ 13 ∷ 14 ∷ 18 ∷ 8 ∷ 6 ∷ 7 ∷ 15 ∷ 9 ∷ 0 ∷ []
+decoderAnswers (calls.DecoderCall.read s) = 17 ∷ 2 ∷ 3 ∷ 19 ∷ 5 ∷ 13 ∷ 14 ∷ 18 ∷ 8 ∷ 6 ∷ 7 ∷ 9 ∷ 0 ∷ []
 decoderAnswers (calls.DecoderCall.block stream part s out) = 17 ∷ 11 ∷ 13 ∷ 2 ∷ 3 ∷ 19 ∷ 5 ∷ 18 ∷ 1 ∷ 12 ∷ 0 ∷ []
 decoderAnswers (calls.DecoderCall.close k stream) = 17 ∷ 11 ∷ 0 ∷ []
 decoderAnswers (calls.DecoderCall.collect out) = 17 ∷ 12 ∷ 0 ∷ []
 decoderAnswers (calls.DecoderCall.hold index) = 17 ∷ 5 ∷ 8 ∷ 10 ∷ 0 ∷ []
 
 abbrev pub encoderAnswers : EncoderCall → List ℕ
-encoderAnswers (calls.EncoderCall.insert name value out) = 17 ∷ 13 ∷ 7 ∷ 15 ∷ 12 ∷ 0 ∷ []
+encoderAnswers (calls.EncoderCall.insert name value out) = 17 ∷ 13 ∷ 7 ∷ 12 ∷ 0 ∷ []
 encoderAnswers (calls.EncoderCall.delete index out) = 17 ∷ 5 ∷ 8 ∷ 9 ∷ 12 ∷ 0 ∷ []
 encoderAnswers (calls.EncoderCall.block stream part s out) = 17 ∷ 11 ∷ 16 ∷ 13 ∷ 12 ∷ 0 ∷ []
 encoderAnswers (calls.EncoderCall.acknowledge s) = 17 ∷ 2 ∷ 3 ∷ 19 ∷ 5 ∷ 10 ∷ 0 ∷ []

@@ -7,7 +7,7 @@ use mathlib.Core.List.{List, [], _∷_, _++_}
 use lib.ListN.{length}
 use lib.Dec.{ltb, leb}
 use Rattle.memory.specs.Choice.{need}
-use Rattle.integers.specs.Answers.{waits, not-allowed, held, over-limit, vacant, under-deletion, not-under-deletion, out-of-turn, no-room, full}
+use Rattle.integers.specs.Answers.{waits, not-allowed, held, over-limit, vacant, under-deletion, not-under-deletion, out-of-turn, no-room}
 use Rattle.integers.specs.Integer.{largest}
 use Rattle.statics.specs.Table.{Entry}
 use Rattle.wire.specs.Name.{Name, indexed, literal}
@@ -71,7 +71,7 @@ deleteOf D i = look deleteIndex i (D .deletes)
 unfoldable pub startDecoder : ℕ → Decoder
 startDecoder limit = record { limit = limit; entries = []; deletes = []; finished = noMarks }
 
--- ---- a management instruction: "insert 8, 6, 7, 15; delete 8, 9". It tells how many bytes were taken.
+-- ---- a management instruction: insert 8, 6, 7; "delete 8, 9". It tells how many bytes were taken.
 unfoldable pub slotName : Slot → Option (List ℕ)
 slotName empty = none
 slotName (holds e) = some (e .name)
@@ -91,8 +91,7 @@ insertNamed D i value taken none = refuse D vacant
 insertNamed D i value taken (some name) =
     need (not (isSome (look heldIndex i (D .entries)))) (refuse D held)
     (need (leb (heldSize (D .entries) + size (record { name = name; value = value })) (D .limit)) (refuse D over-limit)
-    (need (ltb (length (D .entries)) 128) (refuse D full)
-    (finish (withEntries D (put heldIndex (record { index = i; entry = record { name = name; value = value } }) (D .entries))) taken 0 nothing)))
+    (finish (withEntries D (put heldIndex (record { index = i; entry = record { name = name; value = value } }) (D .entries))) taken 0 nothing))
 
 -- "A delete is kept with its lists."
 unfoldable pub deleteEntry : Decoder → Delete → ℕ → Outcome Decoder

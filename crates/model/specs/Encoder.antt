@@ -8,7 +8,7 @@ use lib.ListN.{length}
 use lib.Dec.{ltb, leb, eqb}
 use Rattle.memory.specs.Choice.{pick, need}
 use Rattle.memory.specs.Compare.{same}
-use Rattle.integers.specs.Answers.{not-allowed, over-limit, vacant, under-deletion, not-under-deletion, out-of-turn, no-room, too-long, full}
+use Rattle.integers.specs.Answers.{not-allowed, over-limit, vacant, under-deletion, not-under-deletion, out-of-turn, no-room, too-long}
 use Rattle.integers.specs.Integer.{largest}
 use Rattle.wire.specs.Name.{Name, indexed as by-index, literal as by-bytes}
 use Rattle.wire.specs.StreamList.{StreamList}
@@ -101,7 +101,7 @@ staticField l f Nothing = dynamicField l f (lowest sentIndex (servesBoth (f .nam
 unfoldable pub choose : List Sent → Field → Representation
 choose l f = pick (eqb (f .flag) 1) (literal 1 (chooseName l (f .name)) (f .value)) (staticField l f (findBoth (f .name) (f .value)))
 
--- ---- insert: "13, 7, 15, 12". It tells the bytes written and the new index, "the lowest from 62 that is not held".
+-- ---- insert: 13, 7, 12. It tells the bytes written and the new index, "the lowest from 62 that is not held".
 abbrev pub newSent : ℕ → List ℕ → List ℕ → Sent
 newSent i name value = record { index = i; entry = record { name = name; value = value }; nontrailer = 0; trailer = 0; deleted = false }
 
@@ -116,8 +116,7 @@ insertEntry E name value room =
     need (leb (length name) 255) (refuse E too-long)
     (need (leb (length value) 2047) (refuse E too-long)
     (need (leb (sentSize (E .entries) + size (record { name = name; value = value })) (E .limit)) (refuse E over-limit)
-    (need (ltb (length (E .entries)) 128) (refuse E full)
-    (insertAt E (vacantFrom sentIndex 62 (E .entries)) name value room))))
+    (insertAt E (vacantFrom sentIndex 62 (E .entries)) name value room)))
 
 -- ---- delete: "5, 8, 9, 12". "A delete is written with empty lists." "The entry is held until its acknowledgement is read."
 abbrev pub emptyList : ℕ → StreamList

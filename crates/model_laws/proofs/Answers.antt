@@ -33,7 +33,7 @@ silent s room a z = record { told = λ e. absurd (eqb-false (a .number) 0 z e); 
 
 read-refused : (D : Decoder) (i : Instruction) (taken : ℕ) → Unchanged D (readInstruction D i taken)
 read-refused D (insert i name value) taken =
-    decoder.insert-ways (Unchanged D) D (λ a z h. (refl, refl)) i name value taken (λ xs e free fits few h. absurd (h refl))
+    decoder.insert-ways (Unchanged D) D (λ a z h. (refl, refl)) i name value taken (λ xs e free fits h. absurd (h refl))
 read-refused D (delete i nontrailer trailer) taken =
     decoder.delete-ways (Unchanged D) D (λ a z h. (refl, refl)) i nontrailer trailer taken (λ entry there free h. absurd (h refl))
 read-refused D (acknowledge i) taken = decoder.acknowledge-ways (Unchanged D) D (λ a z h. (refl, refl)) i taken
@@ -66,7 +66,7 @@ collected-told D room =
 pub encoder-refused : (E : Encoder) (c : EncoderCall) → Unchanged E (encoderCall E c)
 unfolding encoderCall
 encoder-refused E (at-encoder.insert name value room) =
-    encoder.insert-ways (Unchanged E) E (λ a z h. (refl, refl)) name value room (λ i e n v fits few written h. absurd (h refl))
+    encoder.insert-ways (Unchanged E) E (λ a z h. (refl, refl)) name value room (λ i e n v fits written h. absurd (h refl))
 encoder-refused E (at-encoder.delete i room) =
     encoder.delete-ways (Unchanged E) E (λ a z h. (refl, refl)) i room (λ e there still fits h. absurd (h refl))
 encoder-refused E (at-encoder.block s part fs room) =
@@ -78,7 +78,7 @@ encoder-refused E (at-encoder.unread number) = λ h. (refl, refl)
 pub inserted-told : (E : Encoder) (name value : List ℕ) (room : ℕ) → Tells room (encoderCall E (at-encoder.insert name value room))
 unfolding encoderCall outputBytes
 inserted-told E name value room =
-    encoder.insert-ways (Tells room) E (silent E room) name value room (λ i e n v fits few written. record { told = λ z. refl; fits = written })
+    encoder.insert-ways (Tells room) E (silent E room) name value room (λ i e n v fits written. record { told = λ z. refl; fits = written })
 
 pub deleted-told : (E : Encoder) (i room : ℕ) → Tells room (encoderCall E (at-encoder.delete i room))
 unfolding encoderCall outputBytes

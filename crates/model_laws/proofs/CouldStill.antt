@@ -32,7 +32,7 @@ Stays s p o = o .state .finished s p ≡ true
 module _ (D : Decoder) (s : ℕ) (p : Part) (h : D .finished s p ≡ true) where
   pub call-stays : (c : DecoderCall) → decoderCall D c .state .finished s p ≡ true
   unfolding decoderCall without
-  call-stays (read (insert i name value) taken) = insert-ways (Stays s p) D (λ a z. h) i name value taken (λ xs e free fits few. h)
+  call-stays (read (insert i name value) taken) = insert-ways (Stays s p) D (λ a z. h) i name value taken (λ xs e free fits. h)
   call-stays (read (delete i first last) taken) = delete-ways (Stays s p) D (λ a z. h) i first last taken (λ x e free. h)
   call-stays (read (acknowledge i) taken) = acknowledge-ways (Stays s p) D (λ a z. h) i taken
   call-stays (block t part rs room) =

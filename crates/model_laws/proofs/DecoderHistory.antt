@@ -168,7 +168,7 @@ pub told-call : (D : Decoder) → FormsDecoder D → (c : DecoderCall) → ToldB
 unfolding decoderCall didBy wroteThat
 told-call D F (at-decoder.read (insert i name value) taken) =
     ways.insert-ways (ToldBy D (at-decoder.read (insert i name value) taken)) D (λ a z. unread D (doneBy (insert i name value)) a z) i name value taken
-    (λ xs e n f g. inserted D F i name xs value e n)
+    (λ xs e n f. inserted D F i name xs value e n)
 told-call D F (at-decoder.read (delete i first last) taken) =
     ways.delete-ways (ToldBy D (at-decoder.read (delete i first last) taken)) D (λ a z. unread D (doneBy (delete i first last)) a z) i first last taken
     (λ h e f. deleted D F (record { index = i; nontrailer = first; trailer = last }) f)

@@ -10,7 +10,7 @@ use lib.Dec.{ltb, leb, eqb}
 use borrow.Author.Tests.{ltb-true, leb-true}
 use Rattle.memory.proofs.Order.{need-both}
 use Rattle.integers.specs.Answers.{Answer, refusal, waits, not-allowed, held, over-limit, vacant, under-deletion, not-under-deletion, out-of-turn}
-use Rattle.integers.specs.Answers.{no-room, full}
+use Rattle.integers.specs.Answers.{no-room}
 use Rattle.integers.specs.Integer.{largest}
 use Rattle.wire.specs.Name.{Name}
 use Rattle.wire.specs.StreamList.{StreamList}
@@ -46,7 +46,7 @@ module _ {κ} (R : Outcome Decoder → Type κ) (D : Decoder)
     (refused : (a : Answer) → eqb (a .number) 0 ≡ false → R (record { state = D; answer = a; output = nothing })) where
   pub insert-ways : (i : ℕ) (name : Name) (value : List ℕ) (taken : ℕ)
       → ((xs : List ℕ) → nameBytes (lookup D) name ≡ some xs → look heldIndex i (D .entries) ≡ none
-      → heldSize (D .entries) + size (record { name = xs; value = value }) ≤ D .limit → length (D .entries) < 128
+      → heldSize (D .entries) + size (record { name = xs; value = value }) ≤ D .limit
       → R (finish (withEntries D (put heldIndex (newHeld i xs value) (D .entries))) taken 0 nothing))
       → R (readInstruction D (insert i name value) taken)
   unfolding readInstruction insertNamed
@@ -58,8 +58,7 @@ module _ {κ} (R : Outcome Decoder → Type κ) (D : Decoder)
           need-both R (not (isSome (look heldIndex i (D .entries)))) _ _ (λ f. refused (refusal held) refl)
           (λ f. need-both R (leb (heldSize (D .entries) + size (record { name = xs; value = value })) (D .limit)) _ _
           (λ g. refused (refusal over-limit) refl)
-          (λ g. need-both R (ltb (length (D .entries)) 128) _ _ (λ h. refused (refusal full) refl)
-          (λ h. inserted xs e (none-found (look heldIndex i (D .entries)) f) (leb-true _ _ g) (ltb-true _ _ h))))
+          (λ g. inserted xs e (none-found (look heldIndex i (D .entries)) f) (leb-true _ _ g)))
 
   pub delete-ways : (i : ℕ) (nontrailer trailer : StreamList) (taken : ℕ)
       → ((h : Held) → look heldIndex i (D .entries) ≡ some h → deleteOf D i ≡ none

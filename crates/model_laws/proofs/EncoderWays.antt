@@ -10,7 +10,7 @@ use lib.Dec.{ltb, leb, eqb}
 use borrow.Author.Tests.{ltb-true, leb-true, not-true}
 use Rattle.memory.proofs.Order.{need-both}
 use Rattle.integers.specs.Answers.{Answer, refusal, not-allowed, over-limit, vacant, under-deletion, not-under-deletion, out-of-turn, no-room}
-use Rattle.integers.specs.Answers.{too-long, full}
+use Rattle.integers.specs.Answers.{too-long}
 use Rattle.integers.specs.Integer.{largest}
 use Rattle.fields.specs.Form.{Field}
 use Rattle.instructions.specs.Instruction.{Instruction, insert, instructionWire}
@@ -32,7 +32,7 @@ module _ {κ} (R : Outcome Encoder → Type κ) (E : Encoder)
     (refused : (a : Answer) → eqb (a .number) 0 ≡ false → R (record { state = E; answer = a; output = nothing })) where
   pub insert-ways : (name value : List ℕ) (room : ℕ)
       → ((i : ℕ) → i ≡ vacantFrom sentIndex 62 (E .entries) → length name ≤ 255 → length value ≤ 2047
-      → sentSize (E .entries) + size (record { name = name; value = value }) ≤ E .limit → length (E .entries) < 128
+      → sentSize (E .entries) + size (record { name = name; value = value }) ≤ E .limit
       → length (instructionWire (insertOf E i name value)) ≤ room
       → R (finish (withSent E (put sentIndex (newSent i name value) (E .entries))) (length (instructionWire (insertOf E i name value))) i
       (instruction (insertOf E i name value))))
@@ -43,11 +43,10 @@ module _ {κ} (R : Outcome Encoder → Type κ) (E : Encoder)
       (λ f. need-both R (leb (length value) 2047) _ _ (λ g. refused (refusal too-long) refl)
       (λ g. need-both R (leb (sentSize (E .entries) + size (record { name = name; value = value })) (E .limit)) _ _
       (λ h. refused (refusal over-limit) refl)
-      (λ h. need-both R (ltb (length (E .entries)) 128) _ _ (λ k. refused (refusal full) refl)
-      (λ k. need-both R (leb (length (instructionWire (insertOf E (vacantFrom sentIndex 62 (E .entries)) name value))) room) _ _
+      (λ h. need-both R (leb (length (instructionWire (insertOf E (vacantFrom sentIndex 62 (E .entries)) name value))) room) _ _
       (λ m. refused (refusal no-room) refl)
-      (λ m. inserted (vacantFrom sentIndex 62 (E .entries)) refl (leb-true _ _ f) (leb-true _ _ g) (leb-true _ _ h) (ltb-true _ _ k)
-      (leb-true _ _ m))))))
+      (λ m. inserted (vacantFrom sentIndex 62 (E .entries)) refl (leb-true _ _ f) (leb-true _ _ g) (leb-true _ _ h)
+      (leb-true _ _ m)))))
 
   pub delete-ways : (i room : ℕ)
       → ((e : Sent) → look sentIndex i (E .entries) ≡ some e → e .deleted ≡ false → length (instructionWire (deleteOfSent e)) ≤ room

@@ -65,8 +65,8 @@ pub forms-read : (D : Decoder) (i : Instruction) (taken : ℕ) → FormsDecoder 
 unfolding deleteOf
 forms-read D (insert i n value) taken F f =
     insert-ways Keeps D (λ a z. F) i n value taken
-    (λ name e free fits few.
-    forms-put D F (newHeld i name value) free (record { index = f .0; name = name-fits D F n (f .1) name e; value = f .2 }) fits few)
+    (λ name e free fits.
+    forms-put D F (newHeld i name value) free (record { index = f .0; name = name-fits D F n (f .1) name e; value = f .2 }) fits)
 forms-read D (delete i nontrailer trailer) taken F f =
     delete-ways Keeps D (λ a z. F) i nontrailer trailer taken
     (λ h there free.

@@ -1,15 +1,16 @@
 -- An encoder's state stays well formed: from the start, through every call, whatever its arguments, and so after every list of calls.
 -- A refusal keeps the state; what is done is one of the table's changes.
 use mathlib.Core.Path.{_≡_, ap, _∙_}
-use Prim.Native.Nat.{ℕ, _≤_, _<_}
+use Prim.Native.Nat.{ℕ, _+_, _≤_}
 use native.Mathlib.Omega.{arith}
 use mathlib.Core.List.{List, [], _∷_}
 use lib.ListN.{length}
-use Rattle.model.specs.Table.{look, vacantFrom, total}
+use Rattle.model.specs.Table.{size, look, vacantFrom, total}
 use Rattle.model.specs.Parts.{mark}
 use Rattle.model.specs.Outcome.{Outcome}
 use Rattle.model.specs.Encoder.{sentIndex, Encoder, sentSize, startEncoder, newSent, markDeleted, refer, FineSent, FormsEncoder}
 use Rattle.model.specs.EncoderCalls.{EncoderCall, insert, delete, block, acknowledged, unread, encoderCall, afterEncoder}
+use Rattle.model.proofs.Places.{place-left}
 use Rattle.model_laws.proofs.Tables.{nope, look-index, vacant-low, vacant-free, vacant-high}
 use Rattle.model_laws.proofs.EncoderWays.{insert-ways, delete-ways, block-ways, acknowledged-ways}
 use Rattle.model_laws.proofs.Order.{delete-index, refer-index}
@@ -19,10 +20,13 @@ pub sent-start : (limit : ℕ) → limit ≤ 4096 → FormsEncoder (startEncoder
 unfolding startEncoder sentSize look total
 sent-start limit h = record { limit = h; fits = omega arith; few = omega arith; order = tt; entries = λ i x e. nope (cc) }
 
--- "the lowest from 62 that is not held" is at most 189, of fewer than 128 held
-pub new-fine : (E : Encoder) (i : ℕ) (name value : List ℕ) → i ≡ vacantFrom sentIndex 62 (E .entries) → length name ≤ 255 → length value ≤ 2047
-    → length (E .entries) < 128 → FineSent (newSent i name value)
-new-fine E i name value e n v few =
+-- "the lowest from 62 that is not held" is at most 189: fewer than 128 are held where the new entry keeps the limit
+pub new-fine : (E : Encoder) → E .limit ≤ 4096 → (i : ℕ) (name value : List ℕ) → i ≡ vacantFrom sentIndex 62 (E .entries)
+    → length name ≤ 255 → length value ≤ 2047 → sentSize (E .entries) + size (record { name = name; value = value }) ≤ E .limit
+    → FineSent (newSent i name value)
+unfolding sentSize
+new-fine E low i name value e n v fits =
+    let few = place-left sentIndex (λ s. s .entry) (E .entries) (record { name = name; value = value }) (E .limit) low fits in
     let l = vacant-low sentIndex 62 (E .entries) in
     let h = vacant-high sentIndex 62 (E .entries) in
     record { low = omega arith; high = omega arith; name = n; value = v; nontrailer = omega arith; trailer = omega arith }
@@ -34,8 +38,8 @@ pub sent-call : (E : Encoder) (c : EncoderCall) → FormsEncoder E → FormsEnco
 unfolding encoderCall
 sent-call E (insert name value room) F =
     insert-ways Keeps E (λ a z. F) name value room
-    (λ i e n v fits few written.
-    sent-put E F (newSent i name value) (rw e (vacant-free sentIndex 62 (E .entries) (F .order))) (new-fine E i name value e n v few) fits few)
+    (λ i e n v fits written.
+    sent-put E F (newSent i name value) (rw e (vacant-free sentIndex 62 (E .entries) (F .order))) (new-fine E (F .limit) i name value e n v fits) fits)
 sent-call E (delete i room) F =
     delete-ways Keeps E (λ a z. F) i room
     (λ e there still fits.

@@ -46,7 +46,7 @@ unfolding encoderCall sent acked sentSize sizeSent
 sent-call E (at-encoder.insert name value room) =
     encoder.insert-ways (λ o. Changed E 0 (pick (eqb (o .answer .number) 0) (size (record { name = name; value = value })) 0) o) E
     (λ n e. ap (λ t. sentSize (E .entries) + t) (sym (pick-false (eqb (n .number) 0) _ 0 e))) name value room
-    (λ i e f g h k m. omega (arith, total-put sentIndex sentWeight (newSent i name value) (E .entries)))
+    (λ i e f g h m. omega (arith, total-put sentIndex sentWeight (newSent i name value) (E .entries)))
 sent-call E (at-encoder.delete i room) =
     encoder.delete-ways (Changed E 0 0) E (λ n e. refl) i room
     (λ e f g h. ap (λ t. t + 0)

@@ -113,7 +113,7 @@ unfolding encoderCall horizonAfter begunBy raisedBy
 horizon-call i p h E (at-encoder.insert name value room) a known =
     encoder.insert-ways (λ o. Known i p (begunBy i o h) (o .state .entries)) E
     (λ n f e k. known e k ∙ sym (pick-false (eqb (n .number) 0) _ h f)) name value room
-    (λ j q f g m n o. known-put i p h j name value (E .entries) (rw q (vacant-free sentIndex 62 (E .entries) a)) known)
+    (λ j q f g m o. known-put i p h j name value (E .entries) (rw q (vacant-free sentIndex 62 (E .entries) a)) known)
 horizon-call i p h E (at-encoder.delete j room) a known =
     encoder.delete-ways (λ o. Known i p h (o .state .entries)) E (λ n f. known) j room
     (λ d f g m. known-map i p h h (markDeleted (d .index)) (delete-index (d .index)) (E .entries)

@@ -22,7 +22,7 @@ use Rattle.model.specs.Outcome.{startAnswer}
 pub encoder-limit : (E : Encoder) (c : EncoderCall) → encoderCall E c .state .limit ≡ E .limit
 unfolding encoderCall
 encoder-limit E (at-encoder.insert name value room) =
-    ways.insert-ways (λ o. o .state .limit ≡ E .limit) E (λ a e. refl) name value room (λ i e f g h k m. refl)
+    ways.insert-ways (λ o. o .state .limit ≡ E .limit) E (λ a e. refl) name value room (λ i e f g h m. refl)
 encoder-limit E (at-encoder.delete i room) = ways.delete-ways (λ o. o .state .limit ≡ E .limit) E (λ a e. refl) i room (λ x e f g. refl)
 encoder-limit E (at-encoder.block s part fs room) =
     ways.block-ways (λ o. o .state .limit ≡ E .limit) E (λ a e. refl) s part fs room (λ p rs e f g h k m. refl)
@@ -33,7 +33,7 @@ encoder-limit E (at-encoder.unread number) = refl
 pub decoder-limit : (D : Decoder) (c : DecoderCall) → decoderCall D c .state .limit ≡ D .limit
 unfolding decoderCall without
 decoder-limit D (at-decoder.read (insert i name value) taken) =
-    decoder.insert-ways (λ o. o .state .limit ≡ D .limit) D (λ a e. refl) i name value taken (λ xs e n f g. refl)
+    decoder.insert-ways (λ o. o .state .limit ≡ D .limit) D (λ a e. refl) i name value taken (λ xs e n f. refl)
 decoder-limit D (at-decoder.read (delete i first last) taken) =
     decoder.delete-ways (λ o. o .state .limit ≡ D .limit) D (λ a e. refl) i first last taken (λ h e f. refl)
 decoder-limit D (at-decoder.read (acknowledge i) taken) =

@@ -109,7 +109,7 @@ module _ (es : List Event) (R : AbstractRules es) (xs ys : List Event) (S : Ends
   unfolding encoderCall saidBy linkOf tablesOf
   inserted name value room =
       ways.insert-ways (λ o. Sayable o → Said o) E (λ a e g. (tt, quiet-tied xs E D (K .tied) quiet tt tt)) name value room
-      (λ i e f g h k m sayable.
+      (λ i e f g h m sayable.
       let l = K .limits in (
         tt,
         said-tied xs E D (K .tied) (ways.insertOf E i name value) (put sentIndex (newSent i name value) (E .entries)) (noteOf (E .entries) i name value)

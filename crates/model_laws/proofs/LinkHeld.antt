@@ -104,7 +104,7 @@ unfolding decoderCall
 read-holds D (insert j name value) taken i =
     ways.insert-ways (λ o. heldBy (insert j name value) (o .answer .number) i (holds i D) ≡ holds i (o .state)) D
     (λ a e. refused-keeps (insert j name value) (a .number) i (holds i D) e) j name value taken
-    (λ xs e n f g. put-holds i (ways.newHeld j xs value) (D .entries) n)
+    (λ xs e n f. put-holds i (ways.newHeld j xs value) (D .entries) n)
 read-holds D (delete j first last) taken i =
     ways.delete-ways (λ o. holds i D ≡ holds i (o .state)) D (λ a e. refl) j first last taken (λ h e f. refl)
 read-holds D (acknowledge j) taken i = ways.acknowledge-ways (λ o. holds i D ≡ holds i (o .state)) D (λ a e. refl) j taken

@@ -58,7 +58,7 @@ pub decoder-order : (lo : ℕ) (D : Decoder) (c : DecoderCall) → InsertsFrom l
 unfolding decoderCall without
 decoder-order lo D (read (insert i name value) taken) low a =
     decoder.insert-ways (λ o. Ascending heldIndex lo (o .state .entries)) D (λ n e. a) i name value taken
-    (λ xs e n f g. asc-put heldIndex lo (decoder.newHeld i xs value) (D .entries) low n a)
+    (λ xs e n f. asc-put heldIndex lo (decoder.newHeld i xs value) (D .entries) low n a)
 decoder-order lo D (read (delete i first last) taken) low a =
     decoder.delete-ways (λ o. Ascending heldIndex lo (o .state .entries)) D (λ n e. a) i first last taken (λ h e f. a)
 decoder-order lo D (read (acknowledge i) taken) low a =
@@ -100,7 +100,7 @@ pub encoder-order : (E : Encoder) (c : EncoderCall) → Ascending sentIndex 62 (
 unfolding encoderCall
 encoder-order E (at-encoder.insert name value room) a =
     encoder.insert-ways (λ o. Ascending sentIndex 62 (o .state .entries)) E (λ n e. a) name value room
-    (λ i e f g h k m. asc-put sentIndex 62 (newSent i name value) (E .entries) (rw e (vacant-low sentIndex 62 (E .entries)))
+    (λ i e f g h m. asc-put sentIndex 62 (newSent i name value) (E .entries) (rw e (vacant-low sentIndex 62 (E .entries)))
     (rw e (vacant-free sentIndex 62 (E .entries) a)) a)
 encoder-order E (at-encoder.delete i room) a =
     encoder.delete-ways (λ o. Ascending sentIndex 62 (o .state .entries)) E (λ n e. a) i room

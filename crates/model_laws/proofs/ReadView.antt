@@ -1,15 +1,13 @@
--- An instruction that the tables as functions take is taken by the decoder, with the same tables after it. The test that they lack, "all 128
--- places held", never fails where the limit is kept, since an entry's size is at least 32.
+-- An instruction that the tables as functions take is taken by the decoder, with the same tables after it.
 use mathlib.Core.Path.{_≡_, refl, ap, _∙_}
-use Prim.Native.Nat.{ℕ, _+_, _≤_, _<_}
+use Prim.Native.Nat.{ℕ, _+_, _≤_}
 use native.Mathlib.Omega.{arith}
 use native.Mathlib.Decide.{decLe}
 use mathlib.Core.Bool.{Bool, true, false, not}
 use mathlib.Core.Option.{Option, none, some}
 use mathlib.Core.List.{List}
-use lib.ListN.{length}
 use lib.Dec.{leb}
-use borrow.Author.Tests.{leb-true, leb-false, lt-ltb}
+use borrow.Author.Tests.{leb-true, leb-false}
 use Rattle.memory.specs.Choice.{pick}
 use Rattle.memory.proofs.Order.{need-both, need-true, need-false}
 use Rattle.statics.specs.Table.{Entry, entryAt}
@@ -28,7 +26,7 @@ use Rattle.model_laws.proofs.Slots.Machine.{emptySlot, liveSlot, delete
 use Rattle.model_laws.proofs.Slots.Machine.{DecoderTables, withSlots, setSlot}
 use Rattle.model_laws.proofs.Slots.Machine as machine
 use Rattle.model_laws.proofs.View.{listsOf, slotAt, slotsOf, tablesOf, sourceOf, slotInstruction}
-use Rattle.model_laws.proofs.TableView.{many-held, slots-put, slots-delete}
+use Rattle.model_laws.proofs.TableView.{slots-put, slots-delete}
 
 -- where the tables as functions take the instruction, the decoder takes it, and then has those tables
 pub record ReadAgrees (o : Outcome Decoder) (c : Option DecoderTables) : Type 0 where
@@ -76,11 +74,6 @@ module _ (D : Decoder) (F : FormsDecoder D) (i taken : ℕ) where
       let w = total-put heldIndex (λ x. size (x .entry)) h (D .entries) in
       record { view = λ T q. (λ k. withSlots (tablesOf D) (t k) (w k)) ∙ some-same q; done = λ T q. refl }
 
-  -- the limit leaves a place
-  room-left : (c : Entry) → heldSize (D .entries) + size c ≤ D .limit → length (D .entries) < 128
-  unfolding size
-  room-left c f = let m = many-held (D .entries) in let l = F .limit in omega arith
-
   insert-new : (value name : List ℕ) → look heldIndex i (D .entries) ≡ none
       → ReadAgrees (insertNamed D i value taken (some name)) (insertIn (tablesOf D) i emptySlot (some (record { name = name; value = value })))
   unfolding insertNamed insertIn tablesOf
@@ -94,7 +87,7 @@ module _ (D : Decoder) (F : FormsDecoder D) (i taken : ℕ) where
       rw (functions.decided-no (decLe (heldSize (D .entries) + size c) (D .limit)) _ _ (λ t. omega arith)) (refused _))
       (λ g.
       let fits = leb-true (heldSize (D .entries) + size c) (D .limit) g in
-      rw (functions.decided-yes (decLe (heldSize (D .entries) + size c) (D .limit)) _ _ fits, need-true _ _ _ (lt-ltb _ _ (room-left c fits)))
+      rw (functions.decided-yes (decLe (heldSize (D .entries) + size c) (D .limit)) _ _ fits)
       (insert-done c e fits)))
 
   insert-agrees : (value : List ℕ) (o : Option Held) → look heldIndex i (D .entries) ≡ o → (d : Option Delete) (r : Option (List ℕ))

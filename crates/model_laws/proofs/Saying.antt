@@ -96,8 +96,8 @@ module _ (E : Encoder) (F : FormsEncoder E) where
   unfolding encoderCall
   said-call (at-encoder.insert name value room) =
       insert-ways Says E (λ a z. tt) name value room
-      (λ i e n v fits few written.
-      let f = new-fine E i name value e n v few in
+      (λ i e n v fits written.
+      let f = new-fine E (F .limit) i name value e n v fits in
       (tt, ((f .low, omega arith), name-fine (E .entries) (F .order) (F .entries) name n, v)))
   said-call (at-encoder.delete i room) =
       delete-ways Says E (λ a z. tt) i room
@@ -141,7 +141,7 @@ Acks o = Acknowledges (o .output)
 
 module _ (D : Decoder) (F : FormsDecoder D) where
   ack-read : (i : Instruction) (taken : ℕ) → Acks (readInstruction D i taken)
-  ack-read (insert i name value) taken = decoder.insert-ways Acks D (λ a z. tt) i name value taken (λ xs e free fits few. tt)
+  ack-read (insert i name value) taken = decoder.insert-ways Acks D (λ a z. tt) i name value taken (λ xs e free fits. tt)
   ack-read (delete i nontrailer trailer) taken = decoder.delete-ways Acks D (λ a z. tt) i nontrailer trailer taken (λ h there free. tt)
   ack-read (acknowledge i) taken = decoder.acknowledge-ways Acks D (λ a z. tt) i taken
 

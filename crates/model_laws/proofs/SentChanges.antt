@@ -6,7 +6,7 @@ use native.Mathlib.Omega.{arith}
 use native.Mathlib.Nat.{max-le}
 use mathlib.Core.Option.{Option, none, some, Option·map}
 use mathlib.Core.List.{List, map}
-use lib.ListN.{length, length-map}
+use lib.ListN.{length-map}
 use lib.Dec.{eqb}
 use Rattle.memory.proofs.Order.{pick-both}
 use Rattle.blocks.specs.Representation.{Representation}
@@ -15,6 +15,7 @@ use Rattle.model.specs.Table.{size, look, put, cut}
 use Rattle.model.specs.Parts.{Part, nontrailer, trailer, Marks, streams}
 use Rattle.model.specs.Encoder.{Sent, sentIndex, Encoder, sentSize, withSent, asDeleted, markDeleted, mentions, referred, refer, FineSent}
 use Rattle.model.specs.Encoder.{FormsEncoder, withWritten}
+use Rattle.model.proofs.Places.{place-left}
 use Rattle.model_laws.proofs.Tables.{nope, look-put, asc-put, total-put, length-put, look-cut, asc-cut, total-cut, length-cut, look-map, asc-map}
 use Rattle.model_laws.proofs.Tables.{total-map}
 
@@ -69,14 +70,16 @@ module _ (E : Encoder) (F : FormsEncoder E) where
         (λ t q. F .entries j y q)
         (sym (look-put sentIndex j x (E .entries) free) ∙ e)
 
-    pub sent-put : FineSent x → sentSize (E .entries) + size (x .entry) ≤ E .limit → length (E .entries) < 128
+    pub sent-put : FineSent x → sentSize (E .entries) + size (x .entry) ≤ E .limit
         → FormsEncoder (withSent E (put sentIndex x (E .entries)))
     unfolding sentSize
-    sent-put fine fits few =
+    sent-put fine fits =
         record {
           limit = F .limit;
           fits = let t = total-put sentIndex (λ e. size (e .entry)) x (E .entries) in let l = F .limit in omega arith;
-          few = let t = length-put sentIndex x (E .entries) in omega arith;
+          few =
+              let t = length-put sentIndex x (E .entries) in
+              omega (arith, place-left sentIndex (λ e. e .entry) (E .entries) (x .entry) (E .limit) (F .limit) fits);
           order = asc-put sentIndex 62 x (E .entries) (fine .low) free (F .order);
           entries = put-entries fine;
         }

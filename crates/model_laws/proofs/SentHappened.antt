@@ -205,7 +205,7 @@ module _ (t : Contents) (h : ℕ → Bool) (d : ℕ → Option Delete) (E : Enco
   told-call (at-encoder.insert name value room) =
       encoder.insert-ways (λ o. ToldAfter t h d (sentHappened (at-encoder.insert name value room) o) (o .state .entries)) E
       (λ n z. told-refused (n .number) _ z) name value room
-      (λ j q f g m n o. told-put (E .entries) t h d T j name value (rw q (vacant-free sentIndex 62 (E .entries) a)))
+      (λ j q f g m o. told-put (E .entries) t h d T j name value (rw q (vacant-free sentIndex 62 (E .entries) a)))
   told-call (at-encoder.delete i room) =
       encoder.delete-ways (λ o. ToldAfter t h d (wroteDelete (o .output)) (o .state .entries)) E
       (λ n z. told-nothing (E .entries) t h d T) i room

@@ -1,18 +1,18 @@
 -- The ways in which a call changes the decoder's table, each of which keeps the state well formed: finished parts, an entry put in, a delete kept,
 -- an entry freed with its delete.
 use mathlib.Core.Path.{_≡_, refl, sym, ap, subst, _∙_}
-use Prim.Native.Nat.{ℕ, _+_, _≤_, _<_}
+use Prim.Native.Nat.{ℕ, _+_, _≤_}
 use native.Mathlib.Omega.{arith}
 use mathlib.Core.Bool.{true, false}
 use mathlib.Core.Option.{Option, none, some}
 use mathlib.Core.List.{[], _∷_, _++_}
-use lib.ListN.{length}
 use lib.Dec.{eqb}
 use Rattle.memory.proofs.Order.{pick-both}
 use Rattle.model.specs.Table.{size, look, put, cut}
 use Rattle.model.specs.Parts.{Marks, Delete}
 use Rattle.model.specs.Decoder.{Held, heldIndex, deleteIndex, Decoder, heldSize, withEntries, isSome, withFinished, without, FineHeld}
 use Rattle.model.specs.Decoder.{FineDelete, FormsDecoder}
+use Rattle.model.proofs.Places.{place-left}
 use Rattle.model_laws.proofs.Tables.{nope, look-index, look-put, asc-put, total-put, length-put, look-cut, asc-cut, total-cut, length-cut}
 use Rattle.model_laws.proofs.DecoderWays.{withDelete}
 use Rattle.model_laws.proofs.Deletes.{look-append, look-append-some, distinct-append, distinct-cut, look-cut-distinct}
@@ -45,14 +45,16 @@ module _ (D : Decoder) (F : FormsDecoder D) where
         rw (look-put heldIndex j h (D .entries) free)
         (pick-both (λ (o : Option Held). isSome o ≡ true) (eqb (h .index) j) (some h) (look heldIndex j (D .entries)) (λ t. refl) (λ t. e))
 
-    pub forms-put : FineHeld h → heldSize (D .entries) + size (h .entry) ≤ D .limit → length (D .entries) < 128
+    pub forms-put : FineHeld h → heldSize (D .entries) + size (h .entry) ≤ D .limit
         → FormsDecoder (withEntries D (put heldIndex h (D .entries)))
     unfolding heldSize
-    forms-put fine fits few =
+    forms-put fine fits =
         record {
           limit = F .limit;
           fits = let t = total-put heldIndex (λ x. size (x .entry)) h (D .entries) in let l = F .limit in omega arith;
-          few = let t = length-put heldIndex h (D .entries) in omega arith;
+          few =
+              let t = length-put heldIndex h (D .entries) in
+              omega (arith, place-left heldIndex (λ x. x .entry) (D .entries) (h .entry) (D .limit) (F .limit) fits);
           order = asc-put heldIndex 62 h (D .entries) (fine .index .0) free (F .order);
           entries = put-entries fine;
           deletes =

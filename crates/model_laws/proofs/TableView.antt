@@ -1,16 +1,14 @@
 -- The decoder's lists changed, seen as functions of the index changed at one place. By two facts each: what stands at the place, and that
 -- nothing else changes.
 use mathlib.Core.Path.{_≡_, refl, sym, ap, _∙_, subst, fun-ext}
-use Prim.Native.Nat.{ℕ, _*_, _≤_}
-use native.Mathlib.Omega.{arith}
+use Prim.Native.Nat.{ℕ}
 use mathlib.Core.Bool.{false}
 use mathlib.Core.Option.{Option, none, some}
 use mathlib.Core.List.{List, [], _∷_, _++_}
-use lib.ListN.{length}
 use Rattle.statics.specs.Table.{Entry}
-use Rattle.model.specs.Table.{size, look, put, total}
+use Rattle.model.specs.Table.{look, put}
 use Rattle.model.specs.Parts.{Delete}
-use Rattle.model.specs.Decoder.{Held, heldIndex, deleteIndex, Decoder, heldSize, withEntries, isSome, without, FormsDecoder}
+use Rattle.model.specs.Decoder.{Held, heldIndex, deleteIndex, Decoder, withEntries, isSome, without, FormsDecoder}
 use Rattle.model_laws.proofs.Tables.{nope, pick-yes, pick-no, look-index, look-put, look-cut}
 use Rattle.model_laws.proofs.Deletes.{look-append, look-append-some, look-cut-distinct}
 use Rattle.model_laws.proofs.DecoderWays.{withDelete}
@@ -34,12 +32,6 @@ held-slot (some h) (some d) = refl
 pub held-view : (D : Decoder) (i : ℕ) → isSome (entryIn (slotsOf D i)) ≡ isSome (look heldIndex i (D .entries))
 unfolding slotsOf
 held-view D i = held-slot (look heldIndex i (D .entries)) (look deleteIndex i (D .deletes))
-
--- every entry is at least 32, so that the limit is met before all places are held
-pub many-held : (l : List Held) → length l * 32 ≤ heldSize l
-unfolding heldSize total size
-many-held [] = omega arith
-many-held (h ∷ l) = let r = many-held l in omega arith
 
 -- ---- the table
 module _ (D : Decoder) (F : FormsDecoder D) where

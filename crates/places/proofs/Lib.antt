@@ -1,4 +1,2 @@
 -- The proofs that the 128 places never run out.
-pub mod Sums
 pub mod PlacesClaim
-pub mod UntestedClaim

@@ -24,6 +24,7 @@ use Rattle.model.specs.Table.{size}
 use Rattle.model.specs.Outcome.{Outcome}
 use Rattle.model.specs.Decoder.{heldIndex, Decoder, heldSize, readInstruction}
 use Rattle.model.specs.Encoder.{sentIndex, Encoder, sentSize, insertEntry}
+use Rattle.model.proofs.Places.{place-left}
 use Rattle.model_laws.proofs.Marks.{and-both}
 use Rattle.model_laws.proofs.Tables.{nope}
 use Rattle.model_laws.proofs.DecoderWays.{insert-ways}
@@ -38,7 +39,6 @@ use Rattle.reply.specs.Result.{Result, refused, stepped}
 use Rattle.decoder.specs.Calls.{readCall}
 use Rattle.encoder.specs.Calls.{insertCall}
 use Rattle.places.specs.Places.{PlacesClaim}
-use Rattle.places.proofs.Sums.{place-left}
 
 -- ---- on the model
 pub held-places : (D : Decoder) → D .limit ≤ 4096 → (e : Entry) → heldSize (D .entries) + size e ≤ D .limit → length (D .entries) < 128
@@ -78,7 +78,7 @@ module _ (m : List ℕ) where
     insert-few forms =
         insert-ways (λ o. Few (stepped overlayDecoder m [] o)) (decoderOf m) (λ a z e. absurd (eqb-false (a .number) 0 z e))
         (i .value) (nameOf s name) (stringBytes s value) taken
-        (λ xs e free fits few d.
+        (λ xs e free fits d.
         let places = held-places (decoderOf m) (held-limit forms) (record { name = xs; value = stringBytes s value }) fits in
         omega (arith, places, held-count))
 
@@ -111,6 +111,6 @@ pub places-claim : PlacesClaim
 places-claim = record {
   held = held-places;
   sent = sent-places;
-  read = λ m s i name value taken found. read-few m s i name value taken found;
+  read = read-few;
   insert = insert-behind;
 }

@@ -1,3 +1,2 @@
 -- The 128 places never run out.
 pub mod Places
-pub mod Untested

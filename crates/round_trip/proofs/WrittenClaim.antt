@@ -69,9 +69,9 @@ module _ (m : List ℕ) (small : Small m) where
     inserted =
         need-both (Done Inserted) (formsEncoder m) _ _ (λ f. before-step Inserted out no-state refl)
         (λ f. insert-ways (λ o. Done Inserted (stepped overlayEncoder m out o)) E (by-step Inserted out) name value (length out)
-        (λ i e n v fits few room done.
+        (λ i e n v fits room done.
         let F = formed f in
-        let new = new-fine E i name value e n v few in
+        let new = new-fine E (F .limit) i name value e n v fits in
         front-reads out (insertOf E i name value) tt
         ((new .low, omega arith), name-fine (E .entries) (F .order) (F .entries) name n, v) room))
 

@@ -5,9 +5,11 @@ use crate::program::call::{Call, Outcome, Second};
 
 /// One more than the highest number of the table of answers.
 const ANSWERS: usize = 20;
+/// As many entries as a table can hold.
+const ENTRIES_MOST: usize = 128;
 
-/// Every call with the answers that the papers let it give and that bytes and arguments can reach. 15 is none of them: a table of
-/// 128 entries is full, so 7 comes first. 4 is none either: packed strings are read.
+/// Every call with the answers that the papers let it give. 4 and 15 are given by none: packed strings are read, and where 128 entries are
+/// held the next one passes the limit, which is 7.
 const REACHABLE: [(&str, &[u8]); 11] = [
     ("decoder start", &[0, 7, 12]),
     ("decoder read", &[0, 2, 3, 5, 6, 7, 8, 9, 13, 14, 17, 18, 19]),
@@ -27,6 +29,8 @@ pub struct Tally {
     counts: [[u64; ANSWERS]; REACHABLE.len()],
     /// The most entries that an end held: decoder, encoder.
     most: [usize; 2],
+    /// Inserts that were refused with 7 where an end held 128 entries.
+    full: [u64; 2],
     /// The blocks at the bound of document 02, those of them with its numbers, and those with the most bytes of a block.
     bound: [u64; 3],
 }
@@ -53,6 +57,10 @@ impl Tally {
         self.counts[place(call)][usize::from(outcome.answer)] += 1;
         let held = [second.decoder.as_ref().map_or(0, |end| end.entries.len()), second.encoder.as_ref().map_or(0, |end| end.entries.len())];
         self.most = [self.most[0].max(held[0]), self.most[1].max(held[1])];
+        let inserts = [matches!(call, Call::DecoderRead { .. }), matches!(call, Call::EncoderInsert { .. })];
+        for (end, full) in self.full.iter_mut().enumerate() {
+            *full += u64::from(inserts[end] && held[end] == ENTRIES_MOST && outcome.answer == 7);
+        }
     }
 
     /// A block was written, or would have been with more room.
@@ -68,6 +76,7 @@ impl Tally {
             row.iter_mut().zip(more).for_each(|(count, more)| *count += more);
         }
         self.most = [self.most[0].max(other.most[0]), self.most[1].max(other.most[1])];
+        self.full.iter_mut().zip(other.full).for_each(|(count, more)| *count += more);
         self.bound.iter_mut().zip(other.bound).for_each(|(count, more)| *count += more);
     }
 
@@ -84,6 +93,7 @@ impl Tally {
         let mut lines: Vec<String> =
             REACHABLE.iter().zip(&self.counts).map(|((name, _), row)| format!("{name:20}{}", given(row))).collect();
         lines.push(format!("most entries held: {} at the decoder, {} at the encoder", self.most[0], self.most[1]));
+        lines.push(format!("inserts refused with 7 beside 128 entries: {} at the decoder, {} at the encoder", self.full[0], self.full[1]));
         let [bound, closed, most] = self.bound;
         lines
             .push(format!("blocks at their bound: {bound}, of them 259 bytes for 257 of list: {closed}; at 16,384 bytes below it: {most}"));
@@ -99,8 +109,8 @@ impl Tally {
             let given = (0u8..).zip(row).filter(|(answer, &count)| count > 0 && !answers.contains(answer));
             missed.extend(given.map(|(answer, _)| format!("{name} answered {answer}")));
         }
-        if self.most != [128, 128] {
-            missed.push("128 entries were not held at both ends".to_string());
+        if self.most != [ENTRIES_MOST; 2] || self.full.contains(&0) {
+            missed.push("128 entries were not held at both ends, or no insert was refused beside them".to_string());
         }
         if self.bound[0] == 0 || self.bound[1] == 0 {
             missed.push("no block was as long as its bound, or none of 259 bytes for a list of 257".to_string());

@@ -55,7 +55,7 @@ impl Decoder {
         };
         refuse_if(self.entries.contains_key(&index), 6)?;
         let entry = Entry { name, value };
-        room_for(entry.size(), self.held(), self.limit, self.entries.len())?;
+        room_for(entry.size(), self.held(), self.limit)?;
         self.entries.insert(index, entry);
         Ok(())
     }

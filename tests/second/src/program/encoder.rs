@@ -44,8 +44,8 @@ impl Encoder {
     pub fn insert(&mut self, name: &[u8], value: &[u8], room: usize) -> Answer<Done> {
         refuse_if(name.len() as u64 > NAME_MOST || value.len() as u64 > VALUE_MOST, 13)?;
         let entry = Entry { name: name.to_vec(), value: value.to_vec() };
-        room_for(entry.size(), self.held(), self.limit, self.entries.len())?;
-        let index = (statics::LAST + 1..).find(|index| !self.entries.contains_key(index)).expect("128 places at most");
+        room_for(entry.size(), self.held(), self.limit)?;
+        let index = (statics::LAST + 1..).find(|index| !self.entries.contains_key(index)).expect("128 entries at most");
         let insert = Instruction::Insert { index, name: self.name_for(name), value: value.to_vec() };
         let mut done = Done::writing(instructions::written(&insert), room)?;
         done.second = index;

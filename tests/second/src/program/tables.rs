@@ -2,9 +2,8 @@
 use super::instructions::STREAMS;
 use super::wire::{refuse, refuse_if, Answer};
 
-/// The highest limit, and the number of places in a table.
+/// The highest limit. An entry has size 32 at least, so a table has 128 entries at most.
 pub const LIMIT_MOST: u64 = 4096;
-pub const PLACES: usize = 128;
 
 /// What a call answered "done" says: its two told numbers and the bytes that it writes.
 #[derive(Clone, Debug, Default, PartialEq, Eq)]
@@ -67,8 +66,7 @@ impl Parts {
     }
 }
 
-/// 7 where the limit would be passed, then 15 where all places are held.
-pub fn room_for(size: u64, held: u64, limit: u64, places: usize) -> Answer<()> {
-    refuse_if(held + size > limit, 7)?;
-    refuse_if(places >= PLACES, 15)
+/// 7 where an entry of this size would pass the limit.
+pub fn room_for(size: u64, held: u64, limit: u64) -> Answer<()> {
+    refuse_if(held + size > limit, 7)
 }

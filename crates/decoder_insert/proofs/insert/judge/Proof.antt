@@ -2,7 +2,7 @@ use mathlib.Core.Path.{sym, _∙_}
 use native.Mathlib.Omega.{arith}
 use Rattle.table_search.specs.Search.{Ordered}
 use Rattle.decoder.proofs.Standing.{changes}
-use Rattle.decoder_insert.proofs.Insertion.{judged-held, judged-over, judged-full, judged-room}
+use Rattle.decoder_insert.proofs.Insertion.{judged-held, judged-over, judged-room}
 use borrow.Author.Tests.{not-true, not-false}
 use borrow.Author.Needs.{needs}
 use Rattle.decoder_insert.proofs.insert.judge.Statement.{statement}
@@ -33,25 +33,10 @@ returns-2 c =
     let row = c .before .before .before in
     sym (judged-over _ _ _ _ (sym (row .before .before .find .ensures) ∙ row .f .given .1) (sym (c .before .fits2 .ensures) ∙ not-true _ (c .if1 .taken)))
 
-count-of-requires : tie.Need-count-of-requires
-count-of-requires c κs = omega (arith, ordered (c .before .before .before .before .before .before) .long)
-
-cast-if2 : tie.Need-cast-if2
-cast-if2 c = search needs
-
 returns-3 : tie.Need-returns-3
 returns-3 c =
-    let test = c .before .before in
-    let row = test .before .before .before in
-    sym (judged-full _ _ _ _ (sym (row .before .before .find .ensures) ∙ row .f .given .1) (sym (test .before .fits2 .ensures) ∙ not-false _ (test .if1 .left))
-    (omega (arith, c .before .count-of .ensures, c .if2 .taken)))
-
-returns-4 : tie.Need-returns-4
-returns-4 c =
-    let test = c .before .before in
-    let row = test .before .before .before in
-    sym (judged-room _ _ _ _ (sym (row .before .before .find .ensures) ∙ row .f .given .1) (sym (test .before .fits2 .ensures) ∙ not-false _ (test .if1 .left))
-    (omega (arith, c .before .count-of .ensures, c .if2 .left)))
+    let row = c .before .before .before in
+    sym (judged-room _ _ _ _ (sym (row .before .before .find .ensures) ∙ row .f .given .1) (sym (c .before .fits2 .ensures) ∙ not-false _ (c .if1 .left)))
 
 pub judge-spec : {M : Type 1} → statement M
 judge-spec =
@@ -63,7 +48,4 @@ judge-spec =
     returns
     fits-requires
     returns-2
-    count-of-requires
-    cast-if2
-    returns-3
-    returns-4)
+    returns-3)

@@ -8,6 +8,7 @@ use borrow.Author.Needs.{needs}
 use Rattle.memory.specs.Bytes.{Small}
 use Rattle.table.specs.Changes.{Opening, inserted}
 use Rattle.deletes.specs.Deletes.{unreferred}
+use Rattle.table_laws.proofs.Room.{room-claim}
 use Rattle.encoder.proofs.Standing.{changes, long}
 use Rattle.encoder_insert.proofs.insert.enter.Statement.{statement}
 use Rattle.encoder_insert.proofs.insert.enter.Tie as tie
@@ -21,7 +22,7 @@ opening : (c : tie.After-slice-known)
 opening c =
     let p = c .before .pre in
     subst (λ (place : ℕ). Opening (c .before .args .m .now) place (length (c .before .args .name .now)) (length (c .before .args .value .now))) (sym (p .0 .0))
-    (changes _ (small c) (p .0 .2) .opening _ _ (p .1 .0) (p .1 .1))
+    (changes _ (small c) (p .0 .2) .opening _ _ (p .1) (room-claim .encoder _ (p .0 .2) _ (p .1)))
 
 insert-requires : tie.Need-insert-requires
 insert-requires c κs = opening (c .before .before .before)
@@ -31,7 +32,7 @@ unrefer-requires c κs =
     let s = c .before .before .before .before .before .before .before in
     let p = s .before .pre in
     let below = opening s .below in
-    (omega (arith, p .0 .1), omega (arith, p .0 .1, p .1 .1), omega (arith, long _ (small s) (p .0 .2), c .before .before .m .given))
+    (omega (arith, p .0 .1), omega (arith, p .0 .1, opening s .few), omega (arith, long _ (small s) (p .0 .2), c .before .before .m .given))
 
 same-length : tie.Need-same-length
 same-length c = search needs

@@ -1,7 +1,7 @@
 -- `encoder_insert::insert::insert` meets its contract: each way out is one law of `Inserting`; past the tests the entry fits.
 use mathlib.Core.Path.{_≡_, refl, sym, _∙_}
 use mathlib.Core.Bool.{true}
-use Prim.Native.Nat.{_+_, _≤_}
+use Prim.Native.Nat.{_+_}
 use lib.ListN.{length}
 use native.Mathlib.Omega.{arith}
 use borrow.Author.Tests.{not-true, not-false, leb-true, leb-false}
@@ -12,7 +12,7 @@ use Rattle.state.specs.Forms.{formsEncoder}
 use Rattle.encoder_insert.specs.Steps.{Fitting}
 use Rattle.encoder.proofs.Leaving.{answer-of, memory-of, output-of}
 use Rattle.encoder.proofs.Standing.{long}
-use Rattle.encoder_insert.proofs.Inserting.{insert-no-state, insert-name-long, insert-value-long, insert-over, insert-full, insert-fitting}
+use Rattle.encoder_insert.proofs.Inserting.{insert-no-state, insert-name-long, insert-value-long, insert-over, insert-fitting}
 use Rattle.encoder_insert.proofs.insert.insert.Statement.{statement}
 use Rattle.encoder_insert.proofs.insert.insert.Tie as tie
 
@@ -23,24 +23,17 @@ small c k = omega (arith, c .slice-known .given k)
 forms : (c : tie.Else1) → formsEncoder (c .before .before .before .before .before .before .before .args .m .now) ≡ true
 forms c = sym (c .before .forms-encoder .ensures) ∙ not-false _ (c .if1 .left)
 
--- past the last test the entry fits
-abbrev start : tie.Else5 → tie.Start
-start c = c .before .before .before .before .before .before .before .before .before .before .before .before .before .before .before
-
 -- past the test of the limit the entry keeps it
-fitted : (l : tie.Else4) → let a = l .before .before .before .before .before .before .before .before .before .before .before .before .args in
-    heldOf (a .m .now) + (length (a .name .now) + length (a .value .now) + 32) ≤ limitOf (a .m .now)
-fitted l = leb-true _ _ (sym (l .before .fits2 .ensures) ∙ not-false _ (l .if4 .left))
+abbrev start : tie.Else4 → tie.Start
+start c = c .before .before .before .before .before .before .before .before .before .before .before .before
 
-fitting : (c : tie.Else5) → Fitting (start c .args .m .now) (start c .args .name .now) (start c .args .value .now)
+fitting : (c : tie.Else4) → Fitting (start c .args .m .now) (start c .args .name .now) (start c .args .value .now)
 fitting c =
-    let l = c .before .before .before in
-    let t = l .before .before .before in
+    let t = c .before .before .before in
     record {
       name-short = t .before .if2 .left;
       value-short = t .if3 .left;
-      limit = fitted l;
-      few = omega (arith, c .if5 .left, c .before .count-of .ensures);
+      limit = leb-true _ _ (sym (c .before .fits2 .ensures) ∙ not-false _ (c .if4 .left));
     }
 
 forms-encoder-requires : tie.Need-forms-encoder-requires
@@ -115,45 +108,19 @@ returns-4 c =
     let e = insert-over (a .m .now) (small s) (forms t) (a .name .now) (a .value .now) (a .out .now) (v .before .if2 .left) (v .if3 .left) over in
     (answer-of e (c .refused4 .ensures), (memory-of e refl, output-of e refl))
 
-count-of-requires : tie.Need-count-of-requires
-count-of-requires c κs =
-    let t = c .before .before .before .before .before .before in
-    omega (arith, long _ (small (t .before .before .before .before .before .before)) (forms t))
-
-cast-if5 : tie.Need-cast-if5
-cast-if5 c = search needs
-
-refused-requires-5 : tie.Need-refused-requires-5
-refused-requires-5 c κs = search needs
+insert-fitting-requires : tie.Need-insert-fitting-requires
+insert-fitting-requires c κs = let p = c .before .before in (forms (p .before .before .before .before .before), fitting p)
 
 same-length-5 : tie.Need-same-length-5
 same-length-5 c = search needs
 
-returns-5 : tie.Need-returns-5
-returns-5 c =
-    let l = c .before .before .before .before in
-    let v = l .before .before .before in
-    let t = v .before .before in
-    let s = t .before .before .before .before .before .before in
-    let a = s .before .args in
-    let e = insert-full (a .m .now) (small s) (forms t) (a .name .now) (a .value .now) (a .out .now) (v .before .if2 .left) (v .if3 .left)
-    (fitted l)
-    (omega (arith, c .before .if5 .taken, c .before .before .count-of .ensures)) in
-    (answer-of e (c .refused5 .ensures), (memory-of e refl, output-of e refl))
-
-insert-fitting-requires : tie.Need-insert-fitting-requires
-insert-fitting-requires c κs = let p = c .before .before in (forms (p .before .before .before .before .before .before .before .before), fitting p)
-
 same-length-6 : tie.Need-same-length-6
 same-length-6 c = search needs
 
-same-length-7 : tie.Need-same-length-7
-same-length-7 c = search needs
-
-returns-6 : tie.Need-returns-6
-returns-6 c =
+returns-5 : tie.Need-returns-5
+returns-5 c =
     let p = c .before .before .before .before .before .before .before in
-    let t = p .before .before .before .before .before .before .before .before in
+    let t = p .before .before .before .before .before in
     let s = t .before .before .before .before .before .before in
     let a = s .before .args in
     let e = insert-fitting (a .m .now) (small s) (forms t) (a .name .now) (a .value .now) (a .out .now) (fitting p) in
@@ -180,12 +147,7 @@ insert-spec =
     refused-requires-4
     same-length-4
     returns-4
-    count-of-requires
-    cast-if5
-    refused-requires-5
-    same-length-5
-    returns-5
     insert-fitting-requires
+    same-length-5
     same-length-6
-    same-length-7
-    returns-6)
+    returns-5)
