@@ -59,19 +59,20 @@ void sender_delete(struct sender *sender, uint32_t index)
 
 int sender_report(struct sender *sender, const struct report *report, uint32_t stream, struct frame *frame)
 {
-    uint8_t lent[REPORT_LIST_ROOM];
+    uint8_t lent[REPORT_LIST_ROOM], block[KOLOWROTAN_BLOCK_ROOM_OF(REPORT_LIST_ROOM)];
     struct kolowrotan_list list = kolowrotan_empty_list(lent, sizeof lent);
     if (sender->fault.what != NULL)
         return 0;
     report_to_list(report, &list);
     uint64_t result = kolowrotan_encoder_block(sender->table, sizeof sender->table, stream, KOLOWROTAN_NONTRAILER,
-                                               list.bytes, list.length, frame->bytes, KOLOWROTAN_BLOCK_ROOM_OF(list.length));
+                                               list.bytes, list.length, block, sizeof block);
     if (KOLOWROTAN_ANSWER(result) != KOLOWROTAN_DONE)
         unexpected("encoder block", result);
     frame->kind = FRAME_BLOCK;
     frame->table = sender->number;
     frame->at = stream;
     frame->length = KOLOWROTAN_FIRST(result);
+    memcpy(frame->bytes, block, frame->length);
     return 1;
 }
 

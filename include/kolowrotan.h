@@ -97,9 +97,11 @@ size_t kolowrotan_encoder_length(void);
 #define KOLOWROTAN_COLLECT_ROOM 5
 
 /*
- * Room that is enough for the block of a field list: its bytes and two for each field, and never more than a block may have. The second
- * needs no count of the fields: each takes three bytes of the list at least. Lengths and counts may be any of size_t, nothing overflows,
- * and with constants both can be the size of an array. They evaluate what they are given more than once.
+ * Room that is enough for the block that an encoder writes of a field list: its bytes and two for each field, and never more than a block
+ * may have. The second needs no count of the fields: each takes three bytes of the list at least. They are for the size of a buffer; what
+ * a call is lent is always told by the buffer's own size. With constants both can be the size of an array, but of the empty list, whose
+ * block is empty, they give 0. Nothing overflows. They evaluate what they are given more than once: kolowrotan_list.h has both as
+ * functions. (A decoder writes as many bytes as the list that was put in, which a block does not tell.)
  */
 #define KOLOWROTAN_BLOCK_ROOM(list_length, fields) \
     ((size_t)(fields) >= KOLOWROTAN_BLOCK_LENGTH / 2 || (size_t)(list_length) >= KOLOWROTAN_BLOCK_LENGTH - 2 * (size_t)(fields) \

@@ -172,6 +172,17 @@ struct kolowrotan_list {
     int failed;
 };
 
+/* KOLOWROTAN_BLOCK_ROOM and KOLOWROTAN_BLOCK_ROOM_OF, for lengths and counts that are no constants. */
+static inline size_t kolowrotan_block_room(size_t list_length, size_t fields)
+{
+    return KOLOWROTAN_BLOCK_ROOM(list_length, fields);
+}
+
+static inline size_t kolowrotan_block_room_of(size_t list_length)
+{
+    return KOLOWROTAN_BLOCK_ROOM_OF(list_length);
+}
+
 static inline struct kolowrotan_list kolowrotan_empty_list(uint8_t *lent, size_t room)
 {
     struct kolowrotan_list list;

@@ -78,7 +78,7 @@ module _ (m : List ℕ) (small : Small m) (forms : formsEncoder m ≡ true) wher
   pub enough : Enough m
   enough =
       record {
-        at-most = λ stream part s out bytes lent-bytes fs e. at-most stream part s out bytes fs e;
+        at-most = λ stream part s out bytes lent-bytes fs e z. omega (arith, at-most stream part s out bytes fs e z);
         lent = λ stream part s out bytes lent-bytes fs e. lent stream part s out bytes fs e;
         uncounted = λ stream part s out bytes lent-bytes. uncounted stream part s out bytes;
       }

@@ -34,7 +34,7 @@ small-times zero x h k = omega arith
 small-times (suc n) x h zero = h
 small-times (suc n) x h (suc k) = small-times n x h k
 
-stays-plain : packs (times 127 88) ≡ false
+pub stays-plain : packs (times 127 88) ≡ false
 unfolding packs allBytes packedSize codesSize codeOf codes
 stays-plain = refl
 

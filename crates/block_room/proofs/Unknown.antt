@@ -100,7 +100,7 @@ two-bytes : length (intWire 7 0 127) ≡ 2
 unfolding intWire groupWire
 two-bytes = refl
 
-plain-more : (xs : List ℕ) → length xs ≡ 127 → packs xs ≡ false → length (stringWire xs) ≡ 129
+pub plain-more : (xs : List ℕ) → length xs ≡ 127 → packs xs ≡ false → length (stringWire xs) ≡ 129
 plain-more xs e plain =
     ap length (plain-wire xs plain)
     ∙ length-append (intWire 7 0 (length xs)) xs

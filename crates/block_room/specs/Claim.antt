@@ -1,6 +1,6 @@
 -- Change request "How much room a block needs": what the encoder's block call tells and answers, by the field list alone.
 use mathlib.Core.Path.{_≡_}
-use Prim.Native.Nat.{ℕ, zero, suc, _+_, _*_, _≤_, _<_}
+use Prim.Native.Nat.{ℕ, zero, suc, _+_, _*_, _/_, _≤_, _<_, min}
 use mathlib.Core.Bool.{true, false}
 use mathlib.Core.List.{List, [], _∷_}
 use lib.ListN.{length}
@@ -16,7 +16,7 @@ use Rattle.encoder.specs.Calls.{startCall}
 use Rattle.link.specs.Calls.{EncoderCall, block, encoderResult, AllEncoderBytes, encoderAfter}
 use Rattle.link.specs.Happened.{historyThere}
 use Rattle.link.specs.Histories.{Serving, Named}
-use Rattle.block_room.specs.Room.{bound, blockRoom, blockRoomOf, OurTable}
+use Rattle.block_room.specs.Room.{blockRoom, blockRoomOf, OurTable}
 
 -- a block call's answer, of the encoder's memory m
 abbrev pub blockAnswer : List ℕ → ℕ → ℕ → List ℕ → List ℕ → Answer
@@ -25,7 +25,7 @@ blockAnswer m stream part s out = encoderResult m (block stream part s out) .ans
 pub record Enough (m : List ℕ) : Type 0 where
   -- "the written block is at most the list's bytes plus two for each field"
   pub at-most : (stream part : ℕ) (s out : List ℕ) → Small s → Small out → (fs : List Field) → readFieldList s ≡ list fs
-      → blockAnswer m stream part s out .number ≡ 0 → blockAnswer m stream part s out .first ≤ bound (length s) (length fs)
+      → blockAnswer m stream part s out .number ≡ 0 → blockAnswer m stream part s out .first ≤ length s + 2 * length fs
   -- "The C host wants to lend the right buffer before it calls": with an output at least that long it is never answered 12,
   pub lent : (stream part : ℕ) (s out : List ℕ) → Small s → Small out → (fs : List Field) → readFieldList s ≡ list fs
       → blockRoom (length s) (length fs) ≤ length out → blockAnswer m stream part s out .number ≡ 12 → ⊥
@@ -47,8 +47,8 @@ pub record Unknown (m : List ℕ) (cs : List EncoderCall) (f : Field) : Type 0 w
 -- "257 bytes of list, 259 of block": with that room it is told, with less the answer is 12, unless the part is out of turn
 pub record Reached (m : List ℕ) (f : Field) : Type 0 where
   pub list-length : length (listForm (f ∷ [])) ≡ 257
-  -- no smaller bound would do
-  pub tight : bound (length (listForm (f ∷ []))) (length (f ∷ [])) ≡ 259
+  -- which is the list's bytes plus two for the field
+  pub tight : length (listForm (f ∷ [])) + 2 * length (f ∷ []) ≡ 259
   pub told : (stream part : ℕ) (out : List ℕ) → Small out → (blockAnswer m stream part (listForm (f ∷ [])) out .number ≡ 11 → ⊥)
       → 259 ≤ length out → blockAnswer m stream part (listForm (f ∷ [])) out ≡ done 259 0
   pub short : (stream part : ℕ) (out : List ℕ) → Small out → (blockAnswer m stream part (listForm (f ∷ [])) out .number ≡ 11 → ⊥)
@@ -63,9 +63,20 @@ times (suc n) x = x ∷ times n x
 abbrev pub plainField : Field
 plainField = record { flag = 0; name = times 127 88; value = times 127 88 }
 
+-- an entry that our encoder cannot have: an empty name at an index of four bytes
+abbrev pub farEntry : Sent
+farEntry = record { index = 16447; entry = record { name = []; value = [] }; nontrailer = 0; trailer = 0; deleted = false }
+
+abbrev pub farField : Field
+farField = record { flag = 0; name = []; value = times 127 88 }
+
 pub record RoomClaim : Type 0 where
+  -- what the header's two macros give: no more than the largest block has, since a longer one is answered 13 before its room is looked at
+  pub rooms : (bytes fields : ℕ) → (blockRoom bytes fields ≡ min 16384 (bytes + 2 * fields)) × (blockRoomOf bytes ≡ min 16384 (bytes + 2 * (bytes / 3)))
   -- "it holds for every table our encoder can have from a start": for each field, whatever the table's entries are,
   pub field : (l : List Sent) → OurTable l → (f : Field) → FineField f → length (representationWire (choose l f)) ≤ length (fieldForm f) + 2
+  -- and not for any table whatever,
+  pub needed : length (fieldForm farField) + 2 < length (representationWire (choose (farEntry ∷ []) farField))
   -- for every call of every list of calls from a start,
   pub from-start : (m : List ℕ) (limit : ℕ) → Small m → startCall m limit .answer .number ≡ 0 → (cs : List EncoderCall) → AllEncoderBytes cs
       → Enough (encoderAfter (startCall m limit .memory) cs)

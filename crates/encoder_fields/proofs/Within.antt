@@ -30,16 +30,16 @@ use Rattle.state_laws.proofs.Each.{Each, found-each}
 
 -- ---- the table
 
--- every index in it is at most 189
+-- every index in it is at most 16,446, which takes three bytes in a prefix of six bits; with a byte more an empty name would take too much
 abbrev Low : Sent → Type 0
-Low e = e .index ≤ 189
+Low e = e .index ≤ 16446
 
 abbrev pub LowTable : List Sent → Type 0
 LowTable = Each Low
 
 -- as in that of a well formed state
 pub forms-low : (E : Encoder) → FormsEncoder E → LowTable (E .entries)
-forms-low E F = found-each Low sentIndex 62 (E .entries) (F .order) (λ i e q. F .entries i e q .high)
+forms-low E F = found-each Low sentIndex 62 (E .entries) (F .order) (λ i e q. omega (arith, F .entries i e q .high))
 
 -- and so is one that is found
 found-low : (test : Sent → Bool) (l : List Sent) → LowTable l → (e : Sent) → lowest sentIndex test l ≡ some e → Low e
@@ -83,18 +83,20 @@ module _ (f : Field) (fine : FineField f) where
   abbrev Within : Representation → Type 0
   Within r = length (representationWire r) ≤ length (fieldForm f) + 2
 
-  indexed-within : (i : ℕ) → i ≤ 189 → Within (indexed i)
-  indexed-within i h = omega (arith, form-least, ap length (indexed-wire i), int-within 7 128 i 0 (omega arith))
+  indexed-within : (i : ℕ) → i ≤ 16446 → Within (indexed i)
+  indexed-within i h = omega (arith, form-least, ap length (indexed-wire i), int-within 7 128 i 1 (omega arith))
 
   module _ (flag : ℕ) where
-    named-within : (i : ℕ) → i ≤ 189 → Within (literal flag (by-index i) (f .value))
+    named-within : (i : ℕ) → i ≤ 16446 → Within (literal flag (by-index i) (f .value))
     named-within i h =
         omega (
           arith,
           fieldForm-split f,
           literal-length flag (by-index i) (f .value),
           ap length (index-wire 6 (flag * 64) i),
-          int-within 6 (flag * 64) i 0 (omega arith),
+          int-within 6 (flag * 64) i 1 (omega arith),
+          textForm-length (f .name) (omega (arith, fine .name-short)),
+          text-least (length (f .name)),
           string-more (f .value) (fine .value-short),
         )
 

@@ -28,8 +28,8 @@ use parts::turn::Part;
 // The length told of a block that is too long: one more than a block may have.
 const OVER: usize = BLOCK_LIMIT + 1;
 
-// The longest list whose block is not too long by the list's bytes alone: a block takes at most these and two for each field, which has three at least. So it
-// has at most 9,830 + 2 * 3,276 = 16,382 bytes; of a list of 9,831 it might have 16,385.
+// The longest list whose block is not too long by this bound: the list's bytes and two for each field, which has three at least, so 9,830 + 2 * 3,276 =
+// 16,382. Of 9,831 it gives 16,385.
 const SHORT_LIST: usize = 9_830;
 
 // One field: the place after its representation, if that stands at the place `at`. Where `write` says so it is written there, and its reference entered.
