@@ -44,7 +44,7 @@ static void start(const struct place *place)
         if (stream + 1 < place->horizon || place->ready)
             result = kolowrotan_decoder_ended(decoder, sizeof decoder, stream);
         else
-            result = kolowrotan_decoder_block(decoder, sizeof decoder, stream, KOLOWROTAN_NONTRAILER, output, 0, output + 1, 0);
+            result = kolowrotan_decoder_over(decoder, sizeof decoder, stream);
         expect(result, 0, "a finished part");
     }
 }

@@ -189,6 +189,8 @@ static size_t decode(void *end, const struct packet *in, struct sink *sink, uint
     }
     if (in->after == 0)
         return 0;
+    if (in->block != 0) /* the message is whole: else the entries that it refers to are kept for it */
+        done(kolowrotan_decoder_ended(decoder->memory, sizeof decoder->memory, decoder->stream - 1), "ended");
     read_all(decoder, in->bytes + in->before + in->block, in->after);
     for (size_t written = 0;;) {
         size_t more = done(kolowrotan_decoder_collect(decoder->memory, sizeof decoder->memory, acknowledgement + written,

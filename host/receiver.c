@@ -27,6 +27,15 @@ static void break_link(struct receiver *receiver, const struct frame *frame, con
     drop_all_waiting(receiver, FATE_BROKEN);
 }
 
+/* Nothing more of the stream is offered: both of its parts are finished. */
+static void end_stream(struct receiver *receiver, uint64_t stream)
+{
+    uint64_t result = kolowrotan_decoder_ended(receiver->table, sizeof receiver->table, stream);
+    if (KOLOWROTAN_ANSWER(result) != KOLOWROTAN_DONE)
+        unexpected("decoder ended", result);
+    receiver->over[stream] = 1;
+}
+
 /* Offers a block. Answers 1 where it waits. */
 static int offer(struct receiver *receiver, const struct frame *frame)
 {
@@ -38,7 +47,8 @@ static int offer(struct receiver *receiver, const struct frame *frame)
     outcome.fields = kolowrotan_fields(result, list, sizeof list);
     switch (KOLOWROTAN_ANSWER(result)) {
     case KOLOWROTAN_DONE:
-        receiver->over[frame->at] = 1;
+        /* a message of this host is one block, without a trailer: it is whole, and the entries that it refers to need not be kept for it */
+        end_stream(receiver, frame->at);
         outcome.fate = FATE_DONE;
         receiver->tell(frame, &outcome);
         return 0;
@@ -124,10 +134,7 @@ static void take_reset(struct receiver *receiver, const struct frame *frame)
     unsigned place = find_waiting(receiver, frame->at);
     if (place < receiver->waiting_count)
         drop_waiting(receiver, place);
-    uint64_t result = kolowrotan_decoder_ended(receiver->table, sizeof receiver->table, frame->at);
-    if (KOLOWROTAN_ANSWER(result) != KOLOWROTAN_DONE)
-        unexpected("decoder ended", result);
-    receiver->over[frame->at] = 1;
+    end_stream(receiver, frame->at);
     tell(receiver, frame, FATE_RESET);
 }
 

@@ -18,6 +18,7 @@ int sender_start(struct sender *sender, uint64_t limit)
     sender->number++;
     bytes_start(&sender->management);
     bytes_start(&sender->acknowledgements);
+    memset(sender->used, 0, sizeof sender->used);
     uint64_t result = kolowrotan_encoder_start(sender->table, sizeof sender->table, limit);
     if (KOLOWROTAN_ANSWER(result) != KOLOWROTAN_DONE) {
         break_link(sender, "encoder start", KOLOWROTAN_ANSWER(result));
@@ -61,8 +62,9 @@ int sender_report(struct sender *sender, const struct report *report, uint32_t s
 {
     uint8_t lent[REPORT_LIST_ROOM], block[KOLOWROTAN_BLOCK_ROOM_OF(REPORT_LIST_ROOM)];
     struct kolowrotan_list list = kolowrotan_empty_list(lent, sizeof lent);
-    if (sender->fault.what != NULL)
+    if (sender->fault.what != NULL || KOLOWROTAN_STREAMS <= stream || sender->used[stream])
         return 0;
+    sender->used[stream] = 1;
     report_to_list(report, &list);
     uint64_t result = kolowrotan_encoder_block(sender->table, sizeof sender->table, stream, KOLOWROTAN_NONTRAILER,
                                                list.bytes, list.length, block, sizeof block);

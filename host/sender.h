@@ -16,6 +16,7 @@ struct sender {
     struct fault fault;
     struct bytes management;       /* written and not sent yet */
     struct bytes acknowledgements; /* received and not read yet */
+    uint8_t used[KOLOWROTAN_STREAMS]; /* 1: a report was written on the stream in this table */
 };
 
 /*
@@ -30,7 +31,10 @@ uint32_t sender_insert(struct sender *sender, const char *name, const char *valu
 /* Puts an entry under deletion. */
 void sender_delete(struct sender *sender, uint32_t index);
 
-/* Writes a report as the block of a stream. Answers 0 where the link is broken: there is no frame then. */
+/*
+ * Writes a report as the block of a stream. Answers 0 where the link is broken, or where the stream was used before: there is no frame
+ * then. The library would take a second report as one more block of the first message.
+ */
 int sender_report(struct sender *sender, const struct report *report, uint32_t stream, struct frame *frame);
 
 /* Cuts a frame of at most `most` management bytes. It has no bytes where there are none to send. */

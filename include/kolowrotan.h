@@ -41,7 +41,7 @@ extern "C" {
 #endif
 
 /* The version of the library that this header belongs to: major, minor, patch. */
-#define KOLOWROTAN_VERSION "1.3.0"
+#define KOLOWROTAN_VERSION "1.4.0"
 
 /* The answers. */
 enum kolowrotan_answer {
@@ -56,7 +56,7 @@ enum kolowrotan_answer {
     KOLOWROTAN_VACANT = 8,             /* a vacant index: an insert's name, a delete, an enquiry */
     KOLOWROTAN_UNDER_DELETION = 9,     /* a delete of an entry under deletion */
     KOLOWROTAN_NOT_UNDER_DELETION = 10, /* an acknowledgement or an enquiry of an entry that is not under deletion */
-    KOLOWROTAN_OUT_OF_TURN = 11,       /* a stream above 4,095, a part that is neither 0 nor 1, or a part out of turn */
+    KOLOWROTAN_OUT_OF_TURN = 11,       /* a stream above 4,095, a part that is neither 0 nor 1, or one that is finished or closed */
     KOLOWROTAN_NO_ROOM = 12,           /* the lent output or memory is too small */
     KOLOWROTAN_TOO_LONG = 13,          /* a string or block is too long */
     KOLOWROTAN_BAD_STREAM_LIST = 14,   /* a bad stream list */
@@ -112,7 +112,7 @@ size_t kolowrotan_encoder_length(void);
 /* No management instruction that can be read takes more bytes: as many as a decoder's host keeps before it gives the link up on 2. */
 #define KOLOWROTAN_READ_ROOM 9228
 
-/* The parts of a message. */
+/* The parts of a message: any number of header blocks, those of interim answers before the final one, and at most one trailer block. */
 #define KOLOWROTAN_NONTRAILER 0
 #define KOLOWROTAN_TRAILER 1
 
@@ -144,20 +144,32 @@ uint64_t kolowrotan_decoder_start(uint8_t *memory, size_t memory_length, uint64_
 uint64_t kolowrotan_decoder_read(uint8_t *memory, size_t memory_length, const uint8_t *bytes, size_t bytes_length);
 
 /*
- * Decodes a header block of a part of a stream: its field list is written to the output, and the part is finished. First told: the
- * bytes written, on 0 alone. On 1 it is the index that the block waits for, the first in byte order, and no length: the output still holds
- * what stood there before, perhaps another block's fields. Keep the block and offer it again later. kolowrotan_fields of
- * kolowrotan_list.h takes the result and gives no field unless it is 0.
- * Answers: 17; 11; 13 a block above 16,384 bytes; the first of 2, 3, 5, 13, 18, 19 met in the bytes, left to right, at the end of an
- * integer 3, 19, then 5 or 13; 1; 12; 0.
+ * Decodes a header block of a part of a stream: its field list is written to the output. First told: the bytes written, on 0 alone. On 1
+ * it is the index that the block waits for, the first in byte order, and no length: the output still holds what stood there before, perhaps
+ * another block's fields. Keep the block and offer it again later. kolowrotan_fields of kolowrotan_list.h takes the result and gives no
+ * field unless it is 0.
+ * A non-trailer block finishes nothing, since a message may have several: one that is offered again after 0 is decoded again. A trailer
+ * block answered 0 finishes both parts of its stream; with another answer it finishes none. Offer it only when every non-trailer block
+ * ever written on the stream was answered 0; there need be none.
+ * Answers: 17; 11 a stream above 4,095, a part that is neither 0 nor 1, or a part that is finished; 13 a block above 16,384 bytes; the
+ * first of 2, 3, 5, 13, 18, 19 met in the bytes, left to right, at the end of an integer 3, 19, then 5 or 13; 1; 12; 0.
  */
 uint64_t kolowrotan_decoder_block(uint8_t *memory, size_t memory_length, uint64_t stream, uint64_t part,
                                   const uint8_t *bytes, size_t bytes_length, uint8_t *output, size_t output_length);
 
 /*
- * The stream has ended or was reset: both of its parts are finished. Saying it again is fine. Say it only when every block ever
- * written on the stream was answered 0, or the stream was reset, and offer no block of it afterwards.
- * Answers: 17; 11; 0.
+ * The non-trailer part of the stream is over: it is finished, and the trailer part stays as it was. Saying it again is fine, also when
+ * the stream has ended. Say it only when every non-trailer block ever written on the stream was answered 0, or the stream was reset, and
+ * offer no non-trailer block of it afterwards. Until it is said, or a trailer block is answered 0, or the stream is told as ended, no
+ * entry is freed whose deletion names this part.
+ * Answers: 17; 11 a stream above 4,095; 0.
+ */
+uint64_t kolowrotan_decoder_over(uint8_t *memory, size_t memory_length, uint64_t stream);
+
+/*
+ * The stream has ended or was reset: both of its parts are finished, whatever was said of them before. Saying it again is fine. Say it
+ * only when every block ever written on the stream was answered 0, or the stream was reset, and offer no block of it afterwards.
+ * Answers: 17; 11 a stream above 4,095; 0.
  */
 uint64_t kolowrotan_decoder_ended(uint8_t *memory, size_t memory_length, uint64_t stream);
 
@@ -202,10 +214,13 @@ uint64_t kolowrotan_encoder_delete(uint8_t *memory, size_t memory_length, uint64
                                    size_t output_length);
 
 /*
- * Writes a field list as the header block of a part of a stream. First told: the bytes written, at most KOLOWROTAN_BLOCK_ROOM of the
+ * Writes a field list as a header block of a part of a stream. First told: the bytes written, at most KOLOWROTAN_BLOCK_ROOM of the
  * list: with that room, or with KOLOWROTAN_BLOCK_ROOM_OF, the answer is never 12. With the latter a list of at most 9,830 bytes is not
  * measured first, which spares a third of the call.
- * Answers: 17; 11; the first of 16, 13 met in the list, left to right; 13 a block above 16,384 bytes; 12; 0.
+ * A stream takes any number of non-trailer blocks, none too, until its trailer is written: a trailer block answered 0 closes both parts,
+ * with another answer it closes none. A stream number that another message has used is not refused: the host counts its streams.
+ * Answers: 17; 11 a stream above 4,095, a part that is neither 0 nor 1, or a part that is closed; the first of 16, 13 met in the list,
+ * left to right; 13 a block above 16,384 bytes; 12; 0.
  */
 uint64_t kolowrotan_encoder_block(uint8_t *memory, size_t memory_length, uint64_t stream, uint64_t part,
                                   const uint8_t *list, size_t list_length, uint8_t *output, size_t output_length);

@@ -309,6 +309,18 @@ static void starts_again(void)
     report(&l42, 0);
 }
 
+/* A stream number serves one message of a table: the library would take a second report as one more block of the first. */
+static void used_again(void)
+{
+    struct frame frame;
+    begin("a stream number is used again");
+    report(&l17, 5);
+    printf("sender: %d\n", sender_report(&sender, &l42, 5, &frame));
+    printf("sender: %d\n", sender_report(&sender, &l42, KOLOWROTAN_STREAMS, &frame));
+    sender_start(&sender, KOLOWROTAN_LIMIT);
+    printf("sender, in a new table: %d\n", sender_report(&sender, &l42, 5, &frame));
+}
+
 void links(void)
 {
     refused_starts();
@@ -319,4 +331,5 @@ void links(void)
     resets();
     waiting();
     starts_again();
+    used_again();
 }

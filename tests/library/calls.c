@@ -68,7 +68,9 @@ static void block(const char *file, int line, block_call *call, size_t length, s
     struct lent output = lent_new(room, 0xEE);
     uint64_t result = call(memory->bytes, memory->length, stream, part, bytes->bytes, bytes->length, output.bytes, output.length);
     told(file, line, result, answer, first, 0);
-    kept(file, line, memory, length, answer);
+    /* a decoder's non-trailer block changes nothing in the memory, done or not */
+    int keeps = call == kolowrotan_decoder_block && part == KOLOWROTAN_NONTRAILER;
+    kept(file, line, memory, length, keeps ? KOLOWROTAN_NO_ROOM : answer);
     given(file, line, bytes);
     written(file, line, &output, answer, first, expected);
 }
@@ -104,6 +106,19 @@ void decoder_block_bytes(const char *file, int line, struct lent *memory, uint64
 {
     block(file, line, kolowrotan_decoder_block, KOLOWROTAN_DECODER_LENGTH, memory, stream, KOLOWROTAN_NONTRAILER, bytes, room,
           answer, first, NULL);
+}
+
+void decoder_trailer_bytes(const char *file, int line, struct lent *memory, uint64_t stream, struct lent *bytes, size_t room,
+                           int answer, uint32_t first)
+{
+    block(file, line, kolowrotan_decoder_block, KOLOWROTAN_DECODER_LENGTH, memory, stream, KOLOWROTAN_TRAILER, bytes, room, answer,
+          first, NULL);
+}
+
+void decoder_over(const char *file, int line, struct lent *memory, uint64_t stream, int answer)
+{
+    told(file, line, kolowrotan_decoder_over(memory->bytes, memory->length, stream), answer, 0, 0);
+    kept(file, line, memory, KOLOWROTAN_DECODER_LENGTH, answer);
 }
 
 void decoder_ended(const char *file, int line, struct lent *memory, uint64_t stream, int answer)
@@ -180,6 +195,13 @@ void encoder_block_bytes(const char *file, int line, struct lent *memory, uint64
 {
     block(file, line, kolowrotan_encoder_block, KOLOWROTAN_ENCODER_LENGTH, memory, stream, KOLOWROTAN_NONTRAILER, list, room,
           answer, first, NULL);
+}
+
+void encoder_trailer_bytes(const char *file, int line, struct lent *memory, uint64_t stream, struct lent *list, size_t room,
+                           int answer, uint32_t first)
+{
+    block(file, line, kolowrotan_encoder_block, KOLOWROTAN_ENCODER_LENGTH, memory, stream, KOLOWROTAN_TRAILER, list, room, answer,
+          first, NULL);
 }
 
 void encoder_acknowledge(const char *file, int line, struct lent *memory, const char *bytes, int answer, uint32_t first)

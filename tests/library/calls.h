@@ -16,6 +16,7 @@ void decoder_start(const char *file, int line, struct lent *memory, uint64_t lim
 void decoder_read(const char *file, int line, struct lent *memory, const char *bytes, int answer, uint32_t first);
 void decoder_block(const char *file, int line, struct lent *memory, uint64_t stream, uint64_t part, const char *bytes,
                    size_t room, int answer, uint32_t first, const char *output);
+void decoder_over(const char *file, int line, struct lent *memory, uint64_t stream, int answer);
 void decoder_ended(const char *file, int line, struct lent *memory, uint64_t stream, int answer);
 void decoder_collect(const char *file, int line, struct lent *memory, size_t room, int answer, uint32_t first,
                      const char *output);
@@ -31,12 +32,16 @@ void encoder_block(const char *file, int line, struct lent *memory, uint64_t str
                    size_t room, int answer, uint32_t first, const char *output);
 void encoder_acknowledge(const char *file, int line, struct lent *memory, const char *bytes, int answer, uint32_t first);
 
-/* The same with given buffers: for long ones. */
+/* The same with given buffers: for long ones. The blocks are of the non-trailer part, but for the trailers. */
 void decoder_block_bytes(const char *file, int line, struct lent *memory, uint64_t stream, struct lent *bytes, size_t room,
                          int answer, uint32_t first);
+void decoder_trailer_bytes(const char *file, int line, struct lent *memory, uint64_t stream, struct lent *bytes, size_t room,
+                           int answer, uint32_t first);
 void encoder_insert_bytes(const char *file, int line, struct lent *memory, struct lent *name, struct lent *value,
                           size_t room, int answer, uint32_t first, uint32_t second, const char *output);
 void encoder_block_bytes(const char *file, int line, struct lent *memory, uint64_t stream, struct lent *list, size_t room,
                          int answer, uint32_t first);
+void encoder_trailer_bytes(const char *file, int line, struct lent *memory, uint64_t stream, struct lent *list, size_t room,
+                           int answer, uint32_t first);
 
 #endif

@@ -8,6 +8,7 @@
 
 #include "calls.h"
 #include "full.h"
+#include "interim.h"
 #include "kolowrotan.h"
 #include "lists.h"
 #include "packed.h"
@@ -60,6 +61,8 @@ static void no_state_decoder(struct lent *memory)
 {
     decoder_read(AT, memory, "", KOLOWROTAN_NO_STATE, 0);
     decoder_block(AT, memory, 4096, 2, "FF", 0, KOLOWROTAN_NO_STATE, 0, "");
+    decoder_over(AT, memory, 4096, KOLOWROTAN_NO_STATE);
+    decoder_over(AT, memory, 0, KOLOWROTAN_NO_STATE);
     decoder_ended(AT, memory, 4096, KOLOWROTAN_NO_STATE);
     decoder_collect(AT, memory, 0, KOLOWROTAN_NO_STATE, 0, "");
     decoder_hold(AT, memory, 0, KOLOWROTAN_NO_STATE, 0, 0);
@@ -127,7 +130,6 @@ static void decoder_blocks(void)
     decoder_block(AT, &memory, UINT64_MAX, 0, "82", 99, KOLOWROTAN_OUT_OF_TURN, 0, "");
     decoder_block(AT, &memory, (uint64_t)1 << 32, 0, "82", 99, KOLOWROTAN_OUT_OF_TURN, 0, "");
     decoder_block(AT, &memory, 0, 2, "82", 99, KOLOWROTAN_OUT_OF_TURN, 0, "");
-    decoder_block(AT, &memory, 0, 1, "82", 99, KOLOWROTAN_OUT_OF_TURN, 0, "");
     decoder_block_bytes(AT, &memory, 0, &longest, 0, KOLOWROTAN_TOO_LONG, 0);
     decoder_block(AT, &memory, 0, 0, "BE FF", 0, KOLOWROTAN_TRUNCATED, 0, "");
     decoder_block(AT, &memory, 0, 0, "BE FF 81 FF FF 3F", 0, KOLOWROTAN_TOO_LARGE, 0, "");
@@ -139,9 +141,9 @@ static void decoder_blocks(void)
     decoder_block(AT, &memory, 0, 0, "82 7F 00 01 39", 99, KOLOWROTAN_WAITS, 63, "");
     decoder_block(AT, &memory, 0, 0, "BE 82", 17, KOLOWROTAN_NO_ROOM, 0, "");
     decoder_block(AT, &memory, 0, 0, "BE 82", 18, KOLOWROTAN_DONE, 18, "00 01 68 01 39 00 07 3A 6D 65 74 68 6F 64 03 47 45 54");
-    decoder_block(AT, &memory, 0, 0, "BE 82", 18, KOLOWROTAN_OUT_OF_TURN, 0, "");
     decoder_block(AT, &memory, 0, 1, "7E 01 37", 99, KOLOWROTAN_DONE, 5, "01 01 68 01 37");
     decoder_block(AT, &memory, 0, 1, "", 99, KOLOWROTAN_OUT_OF_TURN, 0, "");
+    decoder_block(AT, &memory, 0, 0, "BE 82", 18, KOLOWROTAN_OUT_OF_TURN, 0, "");
     decoder_block(AT, &memory, 4095, 0, "", 0, KOLOWROTAN_DONE, 0, "");
     decoder_block_bytes(AT, &memory, 1, &most, 16384 * 13 - 1, KOLOWROTAN_NO_ROOM, 0);
     decoder_block_bytes(AT, &memory, 1, &most, 16384 * 13, KOLOWROTAN_DONE, 16384 * 13);
@@ -168,6 +170,9 @@ static void collects(void)
     decoder_hold(AT, &memory, 62, KOLOWROTAN_DONE, 6, 0);
     for (uint64_t stream = 0; stream < 7; stream++)
         decoder_block(AT, &memory, stream, 0, "", 0, KOLOWROTAN_DONE, 0, "");
+    decoder_hold(AT, &memory, 62, KOLOWROTAN_DONE, 6, 0);
+    for (uint64_t stream = 0; stream < 7; stream++)
+        decoder_over(AT, &memory, stream, KOLOWROTAN_DONE);
     decoder_hold(AT, &memory, 62, KOLOWROTAN_DONE, 2, 0);
     decoder_block(AT, &memory, 0, 1, "", 0, KOLOWROTAN_DONE, 0, "");
     decoder_hold(AT, &memory, 62, KOLOWROTAN_DONE, 1, 7);
@@ -250,7 +255,6 @@ static void encoder_blocks(void)
     struct lent fits = lent_from(list.bytes, 16 * 1004);
     encoder_block(AT, &memory, 4096, 0, "02", 99, KOLOWROTAN_OUT_OF_TURN, 0, "");
     encoder_block(AT, &memory, 0, 2, "", 99, KOLOWROTAN_OUT_OF_TURN, 0, "");
-    encoder_block(AT, &memory, 0, 1, "", 99, KOLOWROTAN_OUT_OF_TURN, 0, "");
     encoder_block(AT, &memory, 0, 0, "02", 0, KOLOWROTAN_BAD_FIELD_LIST, 0, "");
     encoder_block(AT, &memory, 0, 0, "00 01 68 01", 0, KOLOWROTAN_BAD_FIELD_LIST, 0, "");
     encoder_block(AT, &memory, 0, 0, "00 81 00 68 01 39", 0, KOLOWROTAN_BAD_FIELD_LIST, 0, "");
@@ -261,8 +265,9 @@ static void encoder_blocks(void)
     encoder_insert(AT, &memory, "68", "39", 99, KOLOWROTAN_DONE, 6, 62, "BE 00 01 68 01 39");
     encoder_block(AT, &memory, 0, 0, "00 01 68 01 39 00 07 3A 6D 65 74 68 6F 64 03 47 45 54", 1, KOLOWROTAN_NO_ROOM, 0, "");
     encoder_block(AT, &memory, 0, 0, "00 01 68 01 39 00 07 3A 6D 65 74 68 6F 64 03 47 45 54", 2, KOLOWROTAN_DONE, 2, "BE 82");
-    encoder_block(AT, &memory, 0, 0, "", 2, KOLOWROTAN_OUT_OF_TURN, 0, "");
     encoder_block(AT, &memory, 0, 1, "01 01 68 01 37 00 01 78 00", 9, KOLOWROTAN_DONE, 7, "7E 01 37 00 01 78 00");
+    encoder_block(AT, &memory, 0, 1, "", 2, KOLOWROTAN_OUT_OF_TURN, 0, "");
+    encoder_block(AT, &memory, 0, 0, "", 2, KOLOWROTAN_OUT_OF_TURN, 0, "");
     encoder_block(AT, &memory, 4095, 0, "", 0, KOLOWROTAN_DONE, 0, "");
     lent_free(&memory);
     lent_free(&list);
@@ -285,6 +290,7 @@ int main(int count, char **arguments)
     padded();
     room();
     full();
+    interim();
     lists();
     /* valgrind takes what a call left on its stack as undefined */
     if (guard != 0)

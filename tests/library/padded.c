@@ -162,7 +162,9 @@ static void blocks(void)
     decoder_block(AT, &memory, 0, 0, filled("7E FF 80 80 80 00", "FC", 127, ""), 999, KOLOWROTAN_PADDED, 0, "");
     decoder_block(AT, &memory, 0, 0, "01 FF FE BE 00", 99, KOLOWROTAN_PADDED, 0, "");
     decoder_block(AT, &memory, 4096, 0, "FF 80 00", 99, KOLOWROTAN_OUT_OF_TURN, 0, "");
-    decoder_block(AT, &memory, 0, 1, "FF 80 00", 99, KOLOWROTAN_OUT_OF_TURN, 0, "");
+    decoder_block(AT, &memory, 0, 1, "FF 80 00", 99, KOLOWROTAN_PADDED, 0, "");
+    decoder_ended(AT, &memory, 9, KOLOWROTAN_DONE);
+    decoder_block(AT, &memory, 9, 1, "FF 80 00", 99, KOLOWROTAN_OUT_OF_TURN, 0, "");
     decoder_block_bytes(AT, &memory, 0, &longest, 0, KOLOWROTAN_TOO_LONG, 0);
     /* The shortest forms of the same. */
     decoder_block(AT, &memory, 0, 0, "FF 00 FF 80 01", 10, KOLOWROTAN_DONE, 10, "00 01 68 01 37 00 01 68 01 36");

@@ -39,6 +39,17 @@ static void decode(void)
     answered = KOLOWROTAN_ANSWER(kolowrotan_decoder_block(decoder, sizeof decoder, stream++, 0, bytes, length, output, sizeof output));
 }
 
+static void over(void)
+{
+    answered = KOLOWROTAN_ANSWER(kolowrotan_decoder_over(decoder, sizeof decoder, 4095));
+}
+
+static void trailer(void)
+{
+    static uint64_t stream = 100;
+    answered = KOLOWROTAN_ANSWER(kolowrotan_decoder_block(decoder, sizeof decoder, stream++, 1, bytes, length, output, sizeof output));
+}
+
 static void end(void)
 {
     answered = KOLOWROTAN_ANSWER(kolowrotan_decoder_ended(decoder, sizeof decoder, 4095));
@@ -111,6 +122,7 @@ static void blocks(void)
     shallow(AT, decode, fields, sizeof fields);
     shallow(AT, decode, many, sizeof many);
     shallow(AT, decode, many, 0);
+    shallow(AT, trailer, many, sizeof many);
 }
 
 /* A field of each representation, with a static name of more than 16 bytes among the names; the second list is measured before it is written. */
@@ -140,6 +152,7 @@ void stack(void)
     blocks();
     shallow(AT, read_one, deleted, sizeof deleted);
     shallow(AT, hold, NULL, 0);
+    shallow(AT, over, NULL, 0);
     shallow(AT, end, NULL, 0);
     shallow(AT, collect, NULL, 0);
     shallow(AT, insert, name, sizeof name - 1);

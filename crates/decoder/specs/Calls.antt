@@ -9,7 +9,7 @@ use Rattle.instructions.specs.Reading.{readForDecoder, onInstruction, instructi
 use Rattle.blocks.specs.Representation.{Representation}
 use Rattle.blocks.specs.Reading.{BlockRead, block, readBlock}
 use Rattle.blocks.specs.Reading as reading
-use Rattle.model.specs.Parts.{partOf, ended}
+use Rattle.model.specs.Parts.{partOf, over, ended}
 use Rattle.model.specs.Decoder.{startDecoder, readInstruction, decodeBlock, closeParts, collectEntry, enquireHold}
 use Rattle.state.specs.Layout.{decoderLength}
 use Rattle.state.specs.DecoderState.{decoderOf, overlayDecoder}
@@ -41,6 +41,10 @@ blockCall m stream part s out =
     need (formsDecoder m) (refused m out no-state)
     (need (partTurn (decoderOf m .finished) stream (partOf part)) (refused m out out-of-turn)
     (onBlock (refused m out) (readBlock s) (λ rs. stepped overlayDecoder m out (decodeBlock (decoderOf m) stream part rs (length out)))))
+
+-- the non-trailer part of the stream is over
+unfoldable pub overCall : List ℕ → ℕ → Result
+overCall m stream = need (formsDecoder m) (refused m [] no-state) (stepped overlayDecoder m [] (closeParts (decoderOf m) over stream))
 
 -- the stream has ended or was reset
 unfoldable pub endedCall : List ℕ → ℕ → Result

@@ -5,11 +5,9 @@ ghost use Rattle.decoder.specs.Calls.{endedCall};
 use integers::answer::NO_STATE;
 use integers::answer::OUT_OF_TURN;
 use integers::number::StreamNumber;
-use marks::mark::clear;
+use parts::close::close_both;
 use reply::Reply;
 use state::decoder::forms_decoder;
-use state::layout::NONTRAILER_MARKS;
-use state::layout::TRAILER_MARKS;
 
 pub fn ended(m: &mut [u8], stream: u64) -> Reply
     ensures { λ r. ⌜ answerOf r ≡ endedCall (now (m .entry)) stream .answer ⌝ }
@@ -21,8 +19,6 @@ pub fn ended(m: &mut [u8], stream: u64) -> Reply
     if (StreamNumber::LAST as u64) < stream {
         return Reply::refused(OUT_OF_TURN);
     }
-    let s = StreamNumber::new(stream as u16);
-    clear(m, NONTRAILER_MARKS, s);
-    clear(m, TRAILER_MARKS, s);
+    close_both(m, StreamNumber::new(stream as u16));
     Reply::done(0, 0)
 }

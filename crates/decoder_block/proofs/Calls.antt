@@ -1,11 +1,11 @@
 -- The block call by its ways: each refusal in its order, and what a block in turn that reads well gives. By the tests along that way.
 -- Where nothing changes, the state is laid over the memory that it was read from, and an empty output over the lent one.
-use Prim.Native.Nat.{ℕ, _+_, _*_, _≤_, _<_}
+use Prim.Native.Nat.{ℕ, _≤_, _<_}
 use mathlib.Core.Path.{_≡_, refl, sym, ap, _∙_}
 use native.Mathlib.Omega.{arith}
 use mathlib.Core.Logic.{⊎-elim}
 use mathlib.Core.Bool.{Bool, true, false, _&&_}
-use mathlib.Core.Option.{none, some}
+use mathlib.Core.Option.{Option, none, some}
 use mathlib.Core.List.{List, [], _∷_}
 use denote.Enum.Declared.{tagOf}
 use types.Run.{OneOf}
@@ -15,18 +15,17 @@ use borrow.Author.Tests.{lt-ltb, le-leb, lt-leb, ltb-true, eqb-true}
 use Rattle.memory.specs.Bytes.{overlay}
 use Rattle.memory.proofs.Order.{either, not-both, need-true, need-false}
 use Rattle.integers.specs.Answers.{Answer, done}
-use Rattle.marks.specs.Marks.{cleared}
 use Rattle.fields.specs.Form.{Field, listForm}
 use Rattle.blocks.specs.Reading.{BlockRead, readBlock}
 use Rattle.blocks.specs.Meaning.{BlockMeaning, list}
 use Rattle.model.specs.Parts.{Part, nontrailer, trailer, partOf, Marks, inTurn}
 use Rattle.model.specs.Outcome.{outputBytes}
 use Rattle.model.specs.Decoder.{giveFields, decodePart, decodeBlock}
-use Rattle.state.specs.Layout.{marksPlace}
 use Rattle.state.specs.DecoderState.{decoderOf, overlayDecoder}
 use Rattle.state.specs.Forms.{formsDecoder}
 use Rattle.state_laws.proofs.DecoderLaws.{decoder-laws}
 use Rattle.parts.specs.Turn.{partTurn, partIn, turnOf}
+use Rattle.parts.specs.Close.{closedOf}
 use Rattle.parts.specs.declared.turn.Part.{Part as PartCase}
 use Rattle.parts.specs.declared.turn.Turn.the-variants.{Of}
 use Rattle.parts.proofs.Given as parts
@@ -42,7 +41,7 @@ use Rattle.decoder_survey.specs.declared.measure.Survey.the-variants.{Bytes, Wa
 use Rattle.decoder_survey.proofs.Entries.{changes}
 use Rattle.decoder_survey.proofs.Surveying.{survey-is}
 
--- ---- the part in turn, and where its kind's marks stand
+-- ---- the part in turn
 
 pub record InTurn (marks : Marks) (stream part : ℕ) : Type 0 where
   pub kind : Part
@@ -50,27 +49,25 @@ pub record InTurn (marks : Marks) (stream part : ℕ) : Type 0 where
   pub low : stream < 4096
   pub turn : inTurn marks stream kind ≡ true
   pub few : part ≤ 1
-  pub place : 64 + 512 * part ≡ marksPlace kind
 
 both : (a b : Bool) → (a && b) ≡ true → (a ≡ true) × (b ≡ true)
 both true b e = (refl, e)
 both false b e = not-both false e refl
 
 module _ (marks : Marks) (stream part : ℕ) where
-  of-kind : (p : Part) → partOf part ≡ some p → part ≤ 1 → 64 + 512 * part ≡ marksPlace p → partTurn marks stream (partOf part) ≡ true
-      → InTurn marks stream part
+  of-kind : (p : Part) → partOf part ≡ some p → part ≤ 1 → partTurn marks stream (partOf part) ≡ true → InTurn marks stream part
   unfolding partTurn
-  of-kind p e few place t =
+  of-kind p e few t =
       let b = both (ltb stream 4096) (inTurn marks stream p) (rw e at t) in
-      record { kind = p; is = e; low = ltb-true stream 4096 (b .0); turn = b .1; few = few; place = place }
+      record { kind = p; is = e; low = ltb-true stream 4096 (b .0); turn = b .1; few = few }
 
   pub in-turn : partTurn marks stream (partOf part) ≡ true → InTurn marks stream part
   unfolding partOf partTurn
   in-turn t =
       either (eqb part 0)
-      (λ z. let e = eqb-true part 0 z in of-kind nontrailer (rw z) (omega arith) (omega arith) t)
+      (λ z. let e = eqb-true part 0 z in of-kind nontrailer (rw z) (omega arith) t)
       (λ z. either (eqb part 1)
-      (λ o. let e = eqb-true part 1 o in of-kind trailer (rw (z, o)) (omega arith) (omega arith) t)
+      (λ o. let e = eqb-true part 1 o in of-kind trailer (rw (z, o)) (omega arith) t)
       (λ o. let f : partOf part ≡ none = rw (z, o) in
       not-both (partTurn marks stream (partOf part)) t (ap (partTurn marks stream) f)))
 
@@ -128,15 +125,15 @@ module _ (m : List ℕ) (stream part : ℕ) (s out : List ℕ) where
           → blockCall m stream part s out
           ≡ record {
             answer = done (length (listForm fs)) 0;
-            memory = cleared m (64 + 512 * part) stream;
+            memory = closedOf (partOf part) m stream;
             output = overlay out 0 (listForm fs);
           }
-      unfolding stepped giveFields outputBytes
+      unfolding stepped giveFields outputBytes closedOf
       gives h =
           given (list fs) e
           ∙ ap (stepped overlayDecoder m out) (need-true _ _ _ (le-leb (length (listForm fs)) (length out) h))
           ∙ ap (λ (n : List ℕ). record { answer = done (length (listForm fs)) 0; memory = n; output = overlay out 0 (listForm fs) })
-          (sym (ap (λ (k : ℕ). cleared m k stream) (T .place) ∙ changes m S .finish stream (T .kind) (T .low)))
+          (sym (ap (λ (o : Option Part). closedOf o m stream) (T .is) ∙ changes m S .finish stream (T .kind) (T .low)))
 
   -- a block that is refused or waits: the survey's answer, and nothing changes
   pub unwritten : Stands m → partTurn (decoderOf m .finished) stream (partOf part) ≡ true → (v : Survey) → OneOf (1 ∷ 2 ∷ []) (tagOf the-type v)

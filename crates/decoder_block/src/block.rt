@@ -1,14 +1,15 @@
 // The block call: 17, 11, 13, reading, 1, 12. Nothing is written before all of these have passed.
 ghost use mathlib.Core.Path.{_≡_};
 ghost use mathlib.Core.Bool.{true};
-ghost use Prim.Native.Nat.{_+_, _*_, _<_, _≤_};
+ghost use mathlib.Core.Option.{some};
+ghost use Prim.Native.Nat.{_<_, _≤_};
 ghost use lib.ListN.{length};
-ghost use Rattle.marks.specs.Marks.{cleared};
 ghost use Rattle.model.specs.Parts.{partOf};
-ghost use Rattle.state.specs.Layout.{marksPlace};
+ghost use Rattle.state.specs.Layout.{frontLength};
 ghost use Rattle.state.specs.DecoderState.{decoderOf};
 ghost use Rattle.reply.specs.Reply.{answerOf};
 ghost use Rattle.parts.specs.Turn.{partTurn, partIn};
+ghost use Rattle.parts.specs.Close.{closedOf};
 ghost use Rattle.decoder.specs.Calls.{blockCall};
 ghost use Rattle.decoder_survey.specs.Measure.{Stands};
 ghost use Rattle.decoder_survey.specs.Passes.{surveyAnswer, ToldSurvey};
@@ -22,10 +23,9 @@ use integers::answer::NO_STATE;
 use integers::answer::OUT_OF_TURN;
 use integers::answer::WAITS;
 use integers::number::StreamNumber;
-use marks::mark::clear;
+use parts::close::close_after;
 use parts::turn::Part;
 use parts::turn::Turn;
-use parts::turn::marks_place;
 use parts::turn::turn_of;
 use reply::Reply;
 use state::decoder::forms_decoder;
@@ -33,7 +33,7 @@ use state::decoder::forms_decoder;
 // The part with this number, of the two that there are.
 fn kind_of(part: u64) -> Part
     requires { ⌜ part ≤ 1 ⌝ }
-    ensures { λ r. ⌜ marksPlace (partIn r) ≡ 64 + 512 * part ⌝ }
+    ensures { λ r. ⌜ partOf part ≡ some (partIn r) ⌝ }
 {
     if part == 0 {
         return Part::Nontrailer;
@@ -57,20 +57,16 @@ fn replied(survey: Survey) -> Reply
     }
 }
 
-// Finishes the part of a block that was given. Stream and part become types again here alone: held as types through the passes they take registers from
-// them, 166 instructions a field for 161 (machine reports, warm).
+// Finishes what a block finishes that was given: a trailer both parts. Stream and part become types again here alone: held as types through the passes
+// they take registers from them, 166 instructions a field for 161 (machine reports, warm).
 fn finish(m: &mut [u8], stream: u64, part: u64)
-    requires { ⌜ (stream < 4096) × (part ≤ 1) × (1088 ≤ length (now m)) ⌝ }
-    ensures { λ _. ⌜ now (m .exit) ≡ cleared (now (m .entry)) (64 + 512 * part) stream ⌝ }
+    requires { ⌜ (stream < 4096) × (part ≤ 1) × (frontLength ≤ length (now m)) ⌝ }
+    ensures { λ _. ⌜ now (m .exit) ≡ closedOf (partOf part) (now (m .entry)) stream ⌝ }
 {
-    clear(
-        m,
-        marks_place(kind_of(part)),
-        StreamNumber::new(stream as u16),
-    );
+    close_after(m, StreamNumber::new(stream as u16), kind_of(part));
 }
 
-// A block in turn, in two passes: 13 and the refusals of reading, 1, 12, or its fields, and its part is finished.
+// A block in turn, in two passes: 13 and the refusals of reading, 1, 12, or its fields, and what it finishes is finished.
 fn give_surveyed(m: &mut [u8], stream: u64, part: u64, s: &[u8], out: &mut [u8]) -> Reply
     requires { ⌜ Stands (now m) × (partTurn (decoderOf (now m) .finished) stream (partOf part) ≡ true) ⌝ }
     ensures { λ r. ⌜ answerOf r ≡ blockCall (now (m .entry)) stream part (now (s .entry)) (now (out .entry)) .answer ⌝ }

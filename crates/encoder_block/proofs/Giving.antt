@@ -1,7 +1,7 @@
 -- The block call's equations, one for each way through it. By the tests along that way; a refusal leaves memory and output, as a state that memory forms is
 -- over it already.
 use Prim.Native.Nat.{ℕ, _≤_, _<_}
-use mathlib.Core.Path.{_≡_, refl, sym, ap, ap₂, _∙_}
+use mathlib.Core.Path.{_≡_, refl, sym, ap, _∙_}
 use native.Mathlib.Omega.{arith}
 use mathlib.Core.Bool.{true, false}
 use mathlib.Core.Option.{Option, some}
@@ -13,7 +13,6 @@ use Rattle.memory.specs.Bytes.{Small, overlay}
 use Rattle.memory.proofs.Order.{need-true, need-false}
 use Rattle.integers.specs.Answers.{Answer, done, refusal}
 use Rattle.integers.specs.declared.number.StreamNumber.{StreamNumber}
-use Rattle.marks.specs.Marks.{cleared}
 use Rattle.fields.specs.Form.{Field}
 use Rattle.fields.specs.Reading.{FieldListRead, list, readFieldList, fieldListAnswer}
 use Rattle.fields.specs.Reading as reading
@@ -21,13 +20,13 @@ use Rattle.blocks.specs.Representation.{Representation, blockWire}
 use Rattle.model.specs.Parts.{Part, nontrailer, trailer, partOf, partNumber, Marks, inTurn, streams}
 use Rattle.model.specs.Outcome.{Outcome, refuse, outputBytes}
 use Rattle.model.specs.Encoder.{Encoder, choose, writePart, encodePart, encodeBlock}
-use Rattle.state.specs.Layout.{marksPlace}
 use Rattle.state.specs.Front.{marksOf}
 use Rattle.state.specs.EncoderState.{encoderOf, overlayEncoder}
 use Rattle.state.specs.Forms.{formsEncoder}
 use Rattle.state_laws.proofs.EncoderForms.{forms-holds-encoder}
 use Rattle.state_laws.proofs.EncoderOverlay.{overlay-self-encoder}
 use Rattle.parts.specs.Turn.{partTurn, partIn}
+use Rattle.parts.specs.Close.{closedBy}
 use Rattle.parts.specs.declared.turn.Part.{Part as PartCase}
 use Rattle.parts.proofs.Given.{in-turn, Given}
 use Rattle.reply.specs.Result.{Result, refused, stepped}
@@ -57,16 +56,12 @@ pub tells-kept : (r : Result) (m out : List ℕ) (number : ℕ) → r ≡ refuse
     → (m′ out′ : List ℕ) → m′ ≡ m → out′ ≡ out → Tells r answer m′ out′
 tells-kept r m out number e answer a m′ out′ em eo = tells r (refused m out number) e answer m′ out′ a em eo
 
--- ---- a part, its number and its marks
+-- ---- a part and its number
 
 part-is : (p : Part) → partOf (partNumber p) ≡ some p
 unfolding partOf
 part-is nontrailer = refl
 part-is trailer = refl
-
-pub marks-low : (p : Part) → marksPlace p ≤ 576
-marks-low nontrailer = omega arith
-marks-low trailer = omega arith
 
 -- the part that a call's number names is in turn
 pub named-turn : {marks : Marks} {stream n : ℕ} {s : StreamNumber} {c : PartCase} → Given marks stream n s c → partTurn marks stream (partOf n) ≡ true
@@ -193,7 +188,7 @@ module _ {m : List ℕ} {stream : ℕ} {part : Part} {s : List ℕ} (R : Ready m
 
     given : size ≤ 16384 → size ≤ length out → blockCall m stream (partNumber part) s out ≡ record {
       answer = done size 0;
-      memory = cleared (entered m stream part rs) (marksPlace part) stream;
+      memory = closedBy part (entered m stream part rs) stream;
       output = overlay out 0 (blockWire rs);
     }
     unfolding writePart stepped outputBytes
@@ -224,8 +219,8 @@ module _ {m : List ℕ} {stream : ℕ} {part : Part} {s : List ℕ} (R : Ready m
       pub refers-length : length refers ≡ length m
       refers-length = ap length e ∙ entered-length m (R .small) (R .forms) stream (its-turn .0) part rs
 
-      pub gives : (n : ℕ) → n ≡ size → (answer : Answer) (marked new : List ℕ) (place : ℕ) → answer ≡ done n 0 → place ≡ marksPlace part
-          → marked ≡ cleared refers place stream → new ≡ overlay out 0 (blockWire rs) → Tells (blockCall m stream (partNumber part) s out) answer marked new
-      gives n is answer marked new place a p c o =
-          tells _ _ (given short room) answer marked new (a ∙ ap (λ (k : ℕ). done k 0) is)
-          (c ∙ ap₂ (λ (l : List ℕ) (at : ℕ). cleared l at stream) e p) o
+      pub gives : (n : ℕ) → n ≡ size → (answer : Answer) (closed new : List ℕ) → answer ≡ done n 0
+          → closed ≡ closedBy part refers stream → new ≡ overlay out 0 (blockWire rs) → Tells (blockCall m stream (partNumber part) s out) answer closed new
+      gives n is answer closed new a c o =
+          tells _ _ (given short room) answer closed new (a ∙ ap (λ (k : ℕ). done k 0) is)
+          (c ∙ ap (λ (l : List ℕ). closedBy part l stream) e) o

@@ -14,15 +14,14 @@ use fields::read::check_list;
 use integers::answer::NO_STATE;
 use integers::answer::OUT_OF_TURN;
 use integers::number::StreamNumber;
-use marks::mark::clear;
+use parts::close::close_after;
 use parts::turn::Part;
 use parts::turn::Turn;
-use parts::turn::marks_place;
 use parts::turn::turn_of;
 use reply::Reply;
 use state::encoder::forms_encoder;
 
-// A block in turn whose list reads well: 13, 12, or its bytes, its references, and its part written.
+// A block in turn whose list reads well: 13, 12, or its bytes, its references, and what it closes is closed.
 fn give(m: &mut [u8], stream: StreamNumber, part: Part, s: &[u8], out: &mut [u8]) -> Reply
     requires { ⌜ (formsEncoder (now m) ≡ true) × (partTurn (encoderOf (now m) .written) (stream .value) (some (partIn part)) ≡ true) ⌝ }
     requires { ⌜ ReadsWell (now s) ⌝ }
@@ -35,7 +34,7 @@ fn give(m: &mut [u8], stream: StreamNumber, part: Part, s: &[u8], out: &mut [u8]
         return Reply::refused(answer);
     }
     let n = write_list(m, stream, part, s, out, true);
-    clear(m, marks_place(part), stream);
+    close_after(m, stream, part);
     Reply::done(n as u32, 0)
 }
 

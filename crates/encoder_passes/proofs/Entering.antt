@@ -12,20 +12,18 @@ use borrow.Author.Tests.{lt-ltb, le-ltb}
 use Rattle.memory.specs.Choice.{pick}
 use Rattle.memory.specs.Bytes.{Small}
 use Rattle.memory.proofs.Order.{split, pick-true, pick-false}
-use Rattle.marks.specs.Marks.{cleared}
 use Rattle.wire.specs.Name.{indexed as by-index, literal as by-bytes}
 use Rattle.fields.specs.Form.{Field}
 use Rattle.blocks.specs.Representation.{Representation, indexed, literal}
 use Rattle.blocks.specs.Meaning.{references, blockReferences}
 use Rattle.model.specs.Table.{look}
-use Rattle.model.specs.Parts.{Part, mark, streams}
+use Rattle.model.specs.Parts.{Part, blockMarks, streams}
 use Rattle.model.specs.Decoder.{isSome}
 use Rattle.model.specs.Encoder.{Sent, sentIndex, Encoder, withSent, withWritten, FineSent, refer}
 use Rattle.model_laws.proofs.Tables.{nope, pick-eq, pick-lt, look-index, look-map}
 use Rattle.model_laws.proofs.DecoderWays.{some-found}
 use Rattle.model_laws.proofs.Order.{refer-index}
 use Rattle.model_laws.proofs.SentChanges.{refer-entry, refer-fine, sent-map}
-use Rattle.state.specs.Layout.{marksPlace}
 use Rattle.state.specs.Rows.{Row}
 use Rattle.state.specs.EncoderState.{rowOfSent, encoderOf, encoderFront, overlayEncoder}
 use Rattle.state.specs.Forms.{formsEncoder}
@@ -34,6 +32,7 @@ use Rattle.state_laws.proofs.Each.{Each}
 use Rattle.state_laws.proofs.EncoderHolds.{HoldsEncoder, fits-each}
 use Rattle.state_laws.proofs.EncoderForms.{forms-holds-encoder}
 use Rattle.state_laws.proofs.EncoderOverlay.{encoder-fine, length-overlayEncoder, overlay-holds-encoder, overlay-self-encoder}
+use Rattle.parts.specs.Close.{closedBy}
 use Rattle.deletes.specs.Deletes.{raised}
 use Rattle.table_laws.specs.EncoderChanges.{referredAt}
 use Rattle.table_laws.proofs.Finding.{FoundAt, found-here, found-next}
@@ -129,16 +128,15 @@ module _ (E : Encoder) (m : List ℕ) (H : HoldsEncoder E m) (s : ℕ) (p : Part
           (λ high. let e = some-found (look sentIndex i (E .entries)) (held i (subst (λ (is : List ℕ). List·Memᴰ i (is ++ [])) (sym named) (List·Memᴰ·head refl)) high) in
           after-one (e .0) (e .1))
 
-  -- the part marked as written besides
+  -- what the block closes besides
   after-written : (rs : List Representation)
-      → cleared (after rs) (marksPlace p) s
-      ≡ overlayEncoder (withWritten (withSent E (map (refer s p rs) (E .entries))) (mark s p (E .written))) m
+      → closedBy p (after rs) s ≡ overlayEncoder (withWritten (withSent E (map (refer s p rs) (E .entries))) (blockMarks p s (E .written))) m
   unfolding encoderFront
   after-written rs =
       let now : Encoder = state rs in
-      let next : Encoder = withWritten now (mark s p (E .written)) in
+      let next : Encoder = withWritten now (blockMarks p s (E .written)) in
       writes now (after rs) (holds rs) s p below
-      ∙ overlay-twice now next m (marks-fit (encoderFront now) (encoder-fine now (fits rs)) (mark s p (E .written))) (fits rs .forms .order) (λ e. e)
+      ∙ overlay-twice now next m (marks-fit (encoderFront now) (encoder-fine now (fits rs)) (blockMarks p s (E .written))) (fits rs .forms .order) (λ e. e)
       (λ e. refl) (ap (map rowOfSent) (map-id (now .entries))) (sym (map-id (now .entries)))
 
 -- ---- one choice, and one index, by its kind
@@ -198,7 +196,7 @@ module _ (m : List ℕ) (small : Small m) (forms : formsEncoder m ≡ true) (str
   held-low f Literal held = tt
 
   pub entered-written : (rs : List Representation)
-      → cleared (entered m stream part rs) (marksPlace part) stream
-      ≡ overlayEncoder (withWritten (withSent E (map (refer stream part rs) (E .entries))) (mark stream part (E .written))) m
+      → closedBy part (entered m stream part rs) stream
+      ≡ overlayEncoder (withWritten (withSent E (map (refer stream part rs) (E .entries))) (blockMarks part stream (E .written))) m
   unfolding entered
   entered-written rs = after-written E m H stream part below rs

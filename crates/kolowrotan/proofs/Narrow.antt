@@ -22,7 +22,7 @@ use Rattle.blocks.specs.Meaning as meaning
 use Rattle.blocks.specs.Reading.{BlockRead, block, readBlock}
 use Rattle.blocks.specs.Reading as reading
 use Rattle.model.specs.Table.{size, look}
-use Rattle.model.specs.Parts.{Part, partOf, ended, inTurn, Delete, streams}
+use Rattle.model.specs.Parts.{Part, partOf, Closing, over, ended, inTurn, Delete, streams}
 use Rattle.model.specs.Outcome.{Outcome, refuse}
 use Rattle.model.specs.Decoder.{Decoder, heldIndex, heldSize, lookup, deleteOf, nameBytes, isSome, insertNamed, deleteEntry, readInstruction}
 use Rattle.model.specs.Decoder.{giveFields, decodePart, decodeBlock, closeParts, holdOf, enquireHold, Held, nextFreed, freeEntry, collectEntry}
@@ -32,7 +32,7 @@ use Rattle.state.specs.Forms.{formsDecoder}
 use Rattle.parts.specs.Turn.{partTurn}
 use Rattle.reply.specs.Reply.{Narrow}
 use Rattle.reply.specs.Result.{Result, refused, stepped}
-use Rattle.decoder.specs.Calls.{startCall, readCall, onBlock, blockCall, endedCall, holdCall, collectCall}
+use Rattle.decoder.specs.Calls.{startCall, readCall, onBlock, blockCall, overCall, endedCall, holdCall, collectCall}
 use Rattle.decoder.proofs.Holding.{lowest-low}
 
 -- a reply is as narrow as the answer that it is
@@ -78,9 +78,9 @@ block-narrow D s part rs room = go (partOf part)
         step (ltb s streams) _ _ _
         (step (inTurn (D .finished) s p) _ _ _ (give p (blockMeaning (lookup D) rs)))
 
-end-narrow : (D : Decoder) (s : ℕ) → Narrow (closeParts D ended s .answer)
+close-narrow : (D : Decoder) (k : Closing) (s : ℕ) → Narrow (closeParts D k s .answer)
 unfolding closeParts
-end-narrow D s = step (ltb s streams) _ _ _ (omega arith)
+close-narrow D k s = step (ltb s streams) _ _ _ (omega arith)
 
 hold-narrow : (D : Decoder) (i : ℕ) → Narrow (enquireHold D i .answer)
 unfolding enquireHold holdOf
@@ -127,9 +127,13 @@ block-call m stream part s out =
     go (block rs) = block-narrow (decoderOf m) stream part rs (length out)
     go (reading.BlockRead.refused number) = omega arith
 
+pub over-call : (m : List ℕ) (stream : ℕ) → Narrow (overCall m stream .answer)
+unfolding overCall stepped
+over-call m stream = call (formsDecoder m) _ _ _ _ (close-narrow (decoderOf m) over stream)
+
 pub ended-call : (m : List ℕ) (stream : ℕ) → Narrow (endedCall m stream .answer)
 unfolding endedCall stepped
-ended-call m stream = call (formsDecoder m) _ _ _ _ (end-narrow (decoderOf m) stream)
+ended-call m stream = call (formsDecoder m) _ _ _ _ (close-narrow (decoderOf m) ended stream)
 
 pub hold-call : (m : List ℕ) (index : ℕ) → Narrow (holdCall m index .answer)
 unfolding holdCall stepped

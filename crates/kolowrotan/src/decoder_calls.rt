@@ -1,9 +1,10 @@
 // The decoder's calls.
 ghost use mathlib.Core.Path.{_≡_};
 ghost use Rattle.reply.specs.Reply.{joined};
-ghost use Rattle.decoder.specs.Calls.{startCall, readCall, blockCall, endedCall, holdCall, collectCall};
+ghost use Rattle.decoder.specs.Calls.{startCall, readCall, blockCall, overCall, endedCall, holdCall, collectCall};
 use decoder::ended::ended;
 use decoder::enquiry::enquire;
+use decoder::over::over;
 use decoder::start::start;
 use decoder_block::block::block;
 use decoder_collect::collect::collect;
@@ -40,6 +41,15 @@ pub extern "C" fn kolowrotan_decoder_block(
     ensures { λ _. ⌜ now (output .exit) ≡ blockCall (now (memory .entry)) stream part (now (bytes .entry)) (now (output .entry)) .output ⌝ }
 {
     let r = block(memory, stream, part, bytes, output);
+    r.join()
+}
+
+#[no_mangle]
+pub extern "C" fn kolowrotan_decoder_over(memory: &mut [u8], stream: u64) -> u64
+    ensures { λ r. ⌜ r ≡ joined (overCall (now (memory .entry)) stream .answer) ⌝ }
+    ensures { λ _. ⌜ now (memory .exit) ≡ overCall (now (memory .entry)) stream .memory ⌝ }
+{
+    let r = over(memory, stream);
     r.join()
 }
 

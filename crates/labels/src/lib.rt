@@ -51,6 +51,7 @@ pub fn kind_name(out: &mut [u8], t: Text, kind: Kind) -> Text {
     let table = b"decoder start\n\
         management\n\
         block\n\
+        end of message\n\
         end of stream\n\
         collect\n\
         hold enquiry\n\
@@ -67,14 +68,15 @@ fn kind_number(kind: Kind) -> usize {
         Kind::DecoderStart => 0,
         Kind::DecoderRead => 1,
         Kind::DecoderBlock => 2,
-        Kind::DecoderEnded => 3,
-        Kind::DecoderCollect => 4,
-        Kind::DecoderHold => 5,
-        Kind::EncoderStart => 6,
-        Kind::EncoderInsert => 7,
-        Kind::EncoderDelete => 8,
-        Kind::EncoderBlock => 9,
-        Kind::EncoderAcknowledge => 10,
+        Kind::DecoderOver => 3,
+        Kind::DecoderEnded => 4,
+        Kind::DecoderCollect => 5,
+        Kind::DecoderHold => 6,
+        Kind::EncoderStart => 7,
+        Kind::EncoderInsert => 8,
+        Kind::EncoderDelete => 9,
+        Kind::EncoderBlock => 10,
+        Kind::EncoderAcknowledge => 11,
     }
 }
 

@@ -27,11 +27,11 @@ use Rattle.state_laws.proofs.DecoderLaws.{decoder-laws}
 use Rattle.state_laws.proofs.EncoderOverlay.{length-overlayEncoder}
 use Rattle.state_laws.proofs.EncoderLaws.{encoder-laws}
 use Rattle.reply.specs.Result.{refused}
-use Rattle.decoder.specs.Calls.{readCall, endedCall, holdCall, collectCall}
+use Rattle.decoder.specs.Calls.{readCall, overCall, endedCall, holdCall, collectCall}
 use Rattle.decoder.specs.Calls as decoder
 use Rattle.encoder.specs.Calls.{insertCall, deleteCall, acknowledgeCall}
 use Rattle.encoder.specs.Calls as encoder
-use Rattle.model.specs.Parts.{ended}
+use Rattle.model.specs.Parts.{over, ended}
 use Rattle.link.specs.Calls.{DecoderCall, decoderResult, decoderLent, DecoderBytes, EncoderCall, encoderResult, encoderLent, EncoderBytes}
 use Rattle.link.specs.Calls.{Call, decoderStart, atDecoder, encoderStart, atEncoder, resultOf, CallBytes}
 use Rattle.link.specs.Calls as calls
@@ -58,9 +58,10 @@ laid-decoder D m long K = record {
 
 -- memory that forms no state
 no-decoder : (m : List ℕ) → formsDecoder m ≡ false → (c : DecoderCall) → decoderResult m c ≡ refused m (decoderLent c) no-state
-unfolding decoderResult readCall decoder.blockCall endedCall holdCall collectCall
+unfolding decoderResult readCall decoder.blockCall overCall endedCall holdCall collectCall
 no-decoder m e (calls.DecoderCall.read s) = need-false (formsDecoder m) _ _ e
 no-decoder m e (calls.DecoderCall.block stream part s out) = need-false (formsDecoder m) _ _ e
+no-decoder m e (calls.DecoderCall.close over stream) = need-false (formsDecoder m) _ _ e
 no-decoder m e (calls.DecoderCall.close ended stream) = need-false (formsDecoder m) _ _ e
 no-decoder m e (calls.DecoderCall.collect out) = need-false (formsDecoder m) _ _ e
 no-decoder m e (calls.DecoderCall.hold index) = need-false (formsDecoder m) _ _ e

@@ -26,7 +26,7 @@ use Rattle.instructions.proofs.Bounds.{decoder-good}
 use Rattle.instructions.proofs.Lengths.{SmallName, SmallText}
 use Rattle.blocks.specs.Reading.{BlockRead, readBlock}
 use Rattle.blocks.specs.Reading as blocks
-use Rattle.model.specs.Parts.{partOf, ended}
+use Rattle.model.specs.Parts.{partOf, over, ended}
 use Rattle.model.specs.Outcome.{outputBytes, refuse}
 use Rattle.model.specs.Decoder.{Decoder, startDecoder, readInstruction, decodeBlock}
 use Rattle.model.specs.DecoderCalls.{decoderCall}
@@ -39,7 +39,7 @@ use Rattle.state_laws.proofs.DecoderLaws.{decoder-laws}
 use Rattle.state_laws.proofs.DecoderForms.{forms-holds-decoder}
 use Rattle.parts.specs.Turn.{partTurn}
 use Rattle.reply.specs.Result.{Result, refused, stepped}
-use Rattle.decoder.specs.Calls.{startCall, readCall, onBlock, blockCall, endedCall, holdCall, collectCall}
+use Rattle.decoder.specs.Calls.{startCall, readCall, onBlock, blockCall, overCall, endedCall, holdCall, collectCall}
 use Rattle.link.specs.Calls.{DecoderCall, decoderResult, decoderLent, DecoderBytes}
 use Rattle.link.specs.Calls as calls
 use Rattle.link.proofs.Lifted.{readBlockCall, decoderCallOf, StandsDecoder, LiftedDecoder}
@@ -120,7 +120,7 @@ module _ (m : List ℕ) (small : Small m) (forms : formsDecoder m ≡ true) wher
   -- the call is the model's, laid over memory
   pub same-decoder : (c : DecoderCall)
       → decoderResult m c ≡ stepped overlayDecoder m (decoderLent c) (decoderCall (decoderOf m) (decoderCallOf (decoderOf m) c))
-  unfolding decoderResult readCall blockCall endedCall holdCall collectCall decoderCallOf decoderCall
+  unfolding decoderResult readCall blockCall overCall endedCall holdCall collectCall decoderCallOf decoderCall
   same-decoder (calls.DecoderCall.read s) = need-true (formsDecoder m) _ _ forms ∙ go (readForDecoder s)
     where
       go : (r : InstructionRead)
@@ -140,6 +140,7 @@ module _ (m : List ℕ) (small : Small m) (forms : formsDecoder m ≡ true) wher
       go true (blocks.BlockRead.block rs) = refl
       go true (blocks.BlockRead.refused number) = refused-step out number
       go false r = refused-step out out-of-turn
+  same-decoder (calls.DecoderCall.close over stream) = need-true (formsDecoder m) _ _ forms
   same-decoder (calls.DecoderCall.close ended stream) = need-true (formsDecoder m) _ _ forms
   same-decoder (calls.DecoderCall.collect out) = need-true (formsDecoder m) _ _ forms
   same-decoder (calls.DecoderCall.hold index) = need-true (formsDecoder m) _ _ forms

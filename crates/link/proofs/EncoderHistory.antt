@@ -1,8 +1,9 @@
--- What an encoder's calls do after calls from a start, by calls, bytes and answers alone: the encoder's half of the claim on histories.
+-- What an encoder's calls do after calls from a start, and which blocks are in turn after calls from other memory that forms a state, by calls, bytes
+-- and answers alone: the encoder's half of the claim on histories.
 -- Memory stands for the model's state, and what happened tells what that holds; so what the model chooses and writes is the lowest by what happened.
 use mathlib.Core.Path.{_≡_, refl, sym, ap, ap₂, _∙_}
 use Prim.Native.Nat.{ℕ, _+_, _≤_}
-use mathlib.Core.Bool.{false}
+use mathlib.Core.Bool.{true, false}
 use mathlib.Core.Option.{Option, none, some}
 use mathlib.Core.List.{List, [], map}
 use Rattle.memory.specs.Bytes.{Small}
@@ -10,7 +11,7 @@ use Rattle.fields.specs.Reading.{readFieldList}
 use Rattle.instructions.specs.Instruction.{delete, instructionWire}
 use Rattle.blocks.specs.Reading.{block}
 use Rattle.model.specs.Table.{Ascending, look, vacantFrom}
-use Rattle.model.specs.Parts.{Part, nontrailer, trailer, partOf}
+use Rattle.model.specs.Parts.{Part, nontrailer, trailer, partOf, noMarks}
 use Rattle.model.specs.Decoder.{isSome}
 use Rattle.model.specs.Encoder.{Encoder, Sent, sentIndex, sentSize, startEncoder, chooseName, choose, emptyList}
 use Rattle.model.specs.EncoderCalls.{afterEncoder}
@@ -20,20 +21,23 @@ use Rattle.model_laws.proofs.Tables.{nope, look-index, vacant-low, vacant-free,
 use Rattle.model_laws.proofs.Histories.{histories}
 use Rattle.model_laws.proofs.SentHappened.{ToldAfter, told-start}
 use Rattle.state.specs.Layout.{heldOf}
+use Rattle.state.specs.EncoderState.{encoderOf}
+use Rattle.state.specs.Forms.{formsEncoder}
 use Rattle.parts.specs.Turn.{partTurn}
 use Rattle.encoder.specs.Calls as encoder
 use Rattle.link.specs.Calls.{EncoderCall, encoderResult, AllEncoderBytes, encoderAfter, doneBytes}
 use Rattle.link.specs.Calls as calls
 use Rattle.link.specs.Happened.{historyThere}
-use Rattle.link.specs.Histories.{Lowest, referringSince, horizonOf, EncoderHistory}
+use Rattle.link.specs.Histories.{Lowest, referringSince, horizonOf, TurnBy, EncoderHistory}
 use Rattle.link.proofs.Lifted.{StandsEncoder, encoderCallOf}
-use Rattle.link.proofs.EncoderLifting.{lift-encoder, start-encoder}
+use Rattle.link.proofs.EncoderLifting.{lift-encoder, start-encoder, stands-self-encoder}
 use Rattle.link.proofs.Runs.{encoderCallsOf, after-encoder}
 use Rattle.link.proofs.HeldSizes.{held-encoder}
 use Rattle.link.proofs.EncoderTables.{stands-forms, told-since, added-since, removed-since}
 use Rattle.link.proofs.EncoderChoices.{named-by, all-written}
 use Rattle.link.proofs.EncoderDone.{insert-told, delete-told, block-told}
 use Rattle.link.proofs.EncoderReferring.{horizon-since}
+use Rattle.link.proofs.ClosedParts.{turn-after}
 
 -- ---- the lowest index that is not held, by what happened
 module _ (hs : List Happened) (l : List Sent) (order : Ascending sentIndex 62 l) (T : ToldAfter empty (λ i. false) (λ i. none) hs l) where
@@ -86,6 +90,10 @@ module _ (m : List ℕ) (limit : ℕ) (S : StandsEncoder m (startEncoder limit))
       ∙ ap (λ (k : ℕ). instructionWire (delete k (emptyList (d .0 .nontrailer)) (emptyList (d .0 .trailer)))) index
       ∙ ap₂ (λ (x y : ℕ). instructionWire (delete i (emptyList x) (emptyList y))) (horizon-now nontrailer i (d .0) (d .1)) (horizon-now trailer i (d .0) (d .1))
 
+  turn-now : TurnBy noMarks m cs
+  unfolding startEncoder
+  turn-now = turn-after m E S cs b
+
   history-now : EncoderHistory m cs
   unfolding encoderCallOf
   history-now =
@@ -106,9 +114,13 @@ module _ (m : List ℕ) (limit : ℕ) (S : StandsEncoder m (startEncoder limit))
             let w = block-told k now stands-now stream part s out small (encoderResult k (calls.EncoderCall.block stream part s out))
             (partTurn (now .written) stream (partOf part)) (readFieldList s) refl (L .answer) (L .output) z in
             (w .0, map (choose (now .entries)) (w .0), w .1, w .3, w .4, all-written hs (now .entries) order told-now (w .0) (w .2));
+        turn = turn-now;
         delete-says = delete-now;
       }
 
 pub encoder-history : (m : List ℕ) (limit : ℕ) → Small m → encoder.startCall m limit .answer .number ≡ 0
     → (cs : List EncoderCall) → AllEncoderBytes cs → EncoderHistory (encoder.startCall m limit .memory) cs
 encoder-history m limit small started = history-now (encoder.startCall m limit .memory) limit (start-encoder m limit small started)
+
+pub encoder-turn : (m : List ℕ) → Small m → formsEncoder m ≡ true → (cs : List EncoderCall) → AllEncoderBytes cs → TurnBy (encoderOf m .written) m cs
+encoder-turn m small forms = turn-after m (encoderOf m) (stands-self-encoder m small forms)

@@ -30,6 +30,7 @@ pub mod EncoderTables
 pub mod EncoderChoices
 pub mod EncoderReferring
 pub mod EncoderDone
+pub mod ClosedParts
 pub mod EncoderHistory
 pub mod Within
 pub mod HistoriesClaim

@@ -13,14 +13,14 @@ use Rattle.instructions.specs.Instruction.{Instruction, acknowledge}
 use Rattle.instructions.specs.Reading.{readForDecoder, readForEncoder}
 use Rattle.blocks.specs.Representation.{Representation}
 use Rattle.blocks.specs.Reading.{block, readBlock}
-use Rattle.model.specs.Parts.{ended}
+use Rattle.model.specs.Parts.{Closing, over, ended}
 use Rattle.model.specs.Outcome.{Output}
 use Rattle.model.specs.Events as events
 use Rattle.model.specs.Events.{at}
 use Rattle.model_laws.specs.Link as model
 use Rattle.reply.specs.Result.{Result}
 use Rattle.link.specs.Calls as calls
-use Rattle.link.specs.Claims.{Event, Written, writtenIn, Accepted, Rules, Managed, Acknowledges}
+use Rattle.link.specs.Claims.{Event, Written, writtenIn, Accepted, NontrailersDone, Rules, Managed, Acknowledges}
 use Rattle.link.proofs.Steps.{Unreadable, Step, byteOf, modelOf, bytes, modelled, OfferStep, ByteTold, byte-told, OfferedStep, ModelTold, model-told}
 use Rattle.link.proofs.StepHistories.{alike, alike-model, alike-bytes}
 use Rattle.link.proofs.StepBorders.{Split, split-steps, events-around, next-read, heard-next, acknowledgements, acked-next, at-acknowledge}
@@ -76,6 +76,11 @@ module _ (xs : List Step) (s : ℕ) where
   reset-model w =
       let m = Memᴰ·of-map byteOf xs w in
       subst (λ (e : events.Event). List·Memᴰ e (modelled xs)) (told-by-bytes (m .0) _ (m .2)) (Memᴰ·map modelOf (m .1))
+
+-- of the blocks written in ss, the non-trailer ones on the stream s were answered "done" in xs
+nontrailers-model : (ss xs : List Step) (s : ℕ) → NontrailersDone (bytes ss) s (bytes xs) → model.NontrailersDone (modelled ss) s (modelled xs)
+nontrailers-model ss xs s f n w h e z =
+    let v = alike-bytes _ _ _ (alike ss) n w h in accepted-model xs n (f n (v .0) (v .1) (v .2 .stream ∙ e) (v .2 .part ∙ z))
 
 -- ---- the rules
 module _ (ss : List Step) (R : Rules (bytes ss)) where
@@ -143,44 +148,51 @@ module _ (ss : List Step) (R : Rules (bytes ss)) where
         (reset-bytes (P .before) s (subst (List·Memᴰ (events.Event.reset s)) (sym (P .front)) d))
 
   trailers : (xs ys : List events.Event) (n s : ℕ) (rs : List Representation) (room : ℕ) (a : Answer) (o : Output)
-      → modelled ss ≡ xs ++ (events.offered n s 1 rs room a o ∷ ys)
-      → (m : ℕ) × (w : model.Written) × (at m (model.writtenIn xs) ≡ some w) × (w .stream ≡ s) × (w .part ≡ 0) × model.Accepted m xs
+      → modelled ss ≡ xs ++ (events.offered n s 1 rs room a o ∷ ys) → model.NontrailersDone (modelled ss) s xs
   trailers xs ys n s rs room a o q =
       let P = offer-split xs ys n s 1 rs room a o q in
       let t = offer-told xs ys n s 1 rs room a o q in
-      let u = R .trailers (bytes (P .before)) (bytes (P .after)) n s (t .given) (t .lent) (t .result) (offer-around xs ys n s 1 rs room a o q) in
-      let v = alike-model _ _ _ (alike (P .before)) (u .0) (u .1) (u .2) in
-      let b = v .2 in (
-        u .0,
-        v .0,
-        subst (λ (l : List events.Event). at (u .0) (model.writtenIn l) ≡ some (v .0)) (P .front) (v .1),
-        sym (b .stream) ∙ u .3,
-        sym (b .part) ∙ u .4,
-        subst (model.Accepted (u .0)) (P .front) (accepted-model (P .before) (u .0) (u .5)),
-      )
+      subst (model.NontrailersDone (modelled ss) s) (P .front) (nontrailers-model ss (P .before) s
+      (R .trailers (bytes (P .before)) (bytes (P .after)) n s (t .given) (t .lent) (t .result) (offer-around xs ys n s 1 rs room a o q)))
+
+  -- parts closed by the host
+  module _ (xs ys : List events.Event) (k : Closing) (s : ℕ) (q : modelled ss ≡ xs ++ (events.told k s ∷ ys)) where
+    close-split : Split modelOf ss xs (events.told k s) ys
+    close-split = split-steps modelOf ss xs (events.told k s) ys q
+
+    close-told : (n : ℕ) × (r : Result) × (r .answer .number ≡ 0) × (byteOf (close-split .step) ≡ Event.byDecoder n (calls.DecoderCall.close k s) r)
+    close-told = told-by-model (close-split .step) _ (close-split .is)
+
+    -- what a rule says on bytes, for every such event: A of those before it, or a reset. Where A gives B, it says B on the model's.
+    close-rule : (A : List Event → Type 0) (B : List events.Event → Type 0)
+        → ((xs ys : List Event) (n : ℕ) (r : Result) → bytes ss ≡ xs ++ (Event.byDecoder n (calls.DecoderCall.close k s) r ∷ ys) → r .answer .number ≡ 0
+        → A xs ⊎ List·Memᴰ (Event.reset s) xs)
+        → ((xs : List Step) → A (bytes xs) → B (modelled xs)) → B xs ⊎ List·Memᴰ (events.Event.reset s) xs
+    close-rule A B rule f =
+        let P = close-split in
+        let t = close-told in
+        go (rule (bytes (P .before)) (bytes (P .after)) (t .0) (t .1)
+        (events-around byteOf ss (P .before) (P .step) (P .after) (P .whole) _ (t .3)) (t .2))
+      where
+        go : A (bytes (close-split .before)) ⊎ List·Memᴰ (Event.reset s) (bytes (close-split .before)) → B xs ⊎ List·Memᴰ (events.Event.reset s) xs
+        go (inl a) = inl (subst B (close-split .front) (f (close-split .before) a))
+        go (inr m) = inr (subst (List·Memᴰ (events.Event.reset s)) (close-split .front) (reset-model (close-split .before) s m))
+
+  overs : (xs ys : List events.Event) (s : ℕ) → modelled ss ≡ xs ++ (events.told over s ∷ ys)
+      → model.NontrailersDone (modelled ss) s xs ⊎ List·Memᴰ (events.Event.reset s) xs
+  overs xs ys s q =
+      close-rule xs ys over s q (NontrailersDone (bytes ss) s) (model.NontrailersDone (modelled ss) s)
+      (λ xs ys n. R .overs xs ys n s) (λ xs. nontrailers-model ss xs s)
 
   ends : (xs ys : List events.Event) (s : ℕ) → modelled ss ≡ xs ++ (events.told ended s ∷ ys)
       → ((n : ℕ) (w : model.Written) → at n (model.writtenIn (modelled ss)) ≡ some w → w .stream ≡ s → model.Accepted n xs)
       ⊎ List·Memᴰ (events.Event.reset s) xs
   ends xs ys s q =
-      go (R .ends (bytes (P .before)) (bytes (P .after)) (t .0) s (t .1)
-      (events-around byteOf ss (P .before) (P .step) (P .after) (P .whole) _ (t .3)) (t .2))
-    where
-      P : Split modelOf ss xs (events.told ended s) ys
-      P = split-steps modelOf ss xs (events.told ended s) ys q
-
-      t : (n : ℕ) × (r : Result) × (r .answer .number ≡ 0) × (byteOf (P .step) ≡ Event.byDecoder n (calls.DecoderCall.close ended s) r)
-      t = told-by-model (P .step) _ (P .is)
-
-      go : ((n : ℕ) (w : Written) → at n (writtenIn (bytes ss)) ≡ some w → w .stream ≡ s → Accepted n (bytes (P .before)))
-          ⊎ List·Memᴰ (Event.reset s) (bytes (P .before))
-          → ((n : ℕ) (w : model.Written) → at n (model.writtenIn (modelled ss)) ≡ some w → w .stream ≡ s → model.Accepted n xs)
-          ⊎ List·Memᴰ (events.Event.reset s) xs
-      go (inl f) =
-          inl (λ n w h e.
-          let v = alike-bytes _ _ _ (alike ss) n w h in
-          subst (model.Accepted n) (P .front) (accepted-model (P .before) n (f n (v .0) (v .1) (v .2 .stream ∙ e))))
-      go (inr m) = inr (subst (List·Memᴰ (events.Event.reset s)) (P .front) (reset-model (P .before) s m))
+      close-rule xs ys ended s q
+      (λ xs. (n : ℕ) (w : Written) → at n (writtenIn (bytes ss)) ≡ some w → w .stream ≡ s → Accepted n xs)
+      (λ xs. (n : ℕ) (w : model.Written) → at n (model.writtenIn (modelled ss)) ≡ some w → w .stream ≡ s → model.Accepted n xs)
+      (λ xs ys n. R .ends xs ys n s)
+      (λ xs f n w h e. let v = alike-bytes _ _ _ (alike ss) n w h in accepted-model xs n (f n (v .0) (v .1) (v .2 .stream ∙ e)))
 
   pub model-rules : model.AbstractRules (modelled ss)
   model-rules = record {
@@ -189,6 +201,7 @@ module _ (ss : List Step) (R : Rules (bytes ss)) where
     unchanged = unchanged;
     once = once;
     trailers = trailers;
+    overs = overs;
     ends = ends;
     resets = resets;
   }

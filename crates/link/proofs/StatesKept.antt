@@ -15,7 +15,7 @@ use Rattle.instructions.specs.Instruction.{insert, delete, acknowledge}
 use Rattle.instructions.proofs.Lengths.{SmallName, SmallText}
 use Rattle.blocks.specs.Meaning.{Slot, holds, isStatic, withStatics}
 use Rattle.model.specs.Table.{look}
-use Rattle.model.specs.Parts.{Part, Marks, samePart, mark, markBoth, Closing, ended, closed, streams}
+use Rattle.model.specs.Parts.{Part, nontrailer, trailer, Marks, samePart, mark, markBoth, blockMarks, Closing, over, ended, closed, streams}
 use Rattle.model.specs.Outcome.{Outcome}
 use Rattle.model.specs.Decoder.{Held, heldIndex, Decoder, slotIn, lookup, slotName, nameBytes, startDecoder, without}
 use Rattle.model.specs.DecoderCalls.{decoderCall}
@@ -48,7 +48,13 @@ module _ (s : ℕ) (below : s < streams) (marks : Marks) (others : MarksBelow ma
   both-below t q high = pick-eq (λ (b : Bool). b ≡ false) s t true (marks t q) (λ e. absurd (omega arith)) (λ e. others t q high)
 
   closed-below : (k : Closing) → MarksBelow (closed k s marks)
+  closed-below over = mark-below nontrailer
   closed-below ended = both-below
+
+  block-below : (p : Part) → MarksBelow (blockMarks p s marks)
+  unfolding blockMarks
+  block-below nontrailer = others
+  block-below trailer = both-below
 
 -- ---- the decoder
 
@@ -72,10 +78,10 @@ Unmarked o = MarksBelow (o .state .finished)
 decoder-marks : (D : Decoder) → MarksBelow (D .finished) → (c : at-decoder.DecoderCall) → Unmarked (decoderCall D c)
 unfolding decoderCall without
 decoder-marks D B (at-decoder.read (insert i name value) taken) = decoder.insert-ways Unmarked D (λ a z. B) i name value taken (λ xs e n f. B)
-decoder-marks D B (at-decoder.read (delete i nontrailer trailer) taken) = decoder.delete-ways Unmarked D (λ a z. B) i nontrailer trailer taken (λ h e f. B)
+decoder-marks D B (at-decoder.read (delete i first last) taken) = decoder.delete-ways Unmarked D (λ a z. B) i first last taken (λ h e f. B)
 decoder-marks D B (at-decoder.read (acknowledge i) taken) = decoder.acknowledge-ways Unmarked D (λ a z. B) i taken
 decoder-marks D B (at-decoder.block s part rs room) =
-    decoder.block-ways Unmarked D (λ a z. B) s part rs room (λ p fs e below turn m fits. mark-below s below (D .finished) B p)
+    decoder.block-ways Unmarked D (λ a z. B) s part rs room (λ p fs e below turn m fits. block-below s below (D .finished) B p)
 decoder-marks D B (at-decoder.close k s) = decoder.close-ways Unmarked D (λ a z. B) k s (λ below. closed-below s below (D .finished) B k)
 decoder-marks D B (at-decoder.collect room) = decoder.collect-ways Unmarked D (λ a z. B) room (λ e. B) (λ h e f. B)
 decoder-marks D B (at-decoder.hold i) = decoder.hold-ways Unmarked D (λ a z. B) i (λ d e. B)
@@ -109,7 +115,7 @@ unfolding decoderCall without
 decoder-bytes D S (at-decoder.read (insert i name value) taken) b =
     decoder.insert-ways HeldBytes D (λ a z. S) i name value taken
     (λ xs e n f. each-put SmallHeld heldIndex (newHeld i xs value) (D .entries) (found-small D S name (b .0) xs e, b .1) S)
-decoder-bytes D S (at-decoder.read (delete i nontrailer trailer) taken) b = decoder.delete-ways HeldBytes D (λ a z. S) i nontrailer trailer taken (λ h e f. S)
+decoder-bytes D S (at-decoder.read (delete i first last) taken) b = decoder.delete-ways HeldBytes D (λ a z. S) i first last taken (λ h e f. S)
 decoder-bytes D S (at-decoder.read (acknowledge i) taken) b = decoder.acknowledge-ways HeldBytes D (λ a z. S) i taken
 decoder-bytes D S (at-decoder.block s part rs room) b =
     decoder.block-ways HeldBytes D (λ a z. S) s part rs room (λ p fs e below turn m fits. S)
@@ -150,7 +156,7 @@ unfolding encoderCall
 encoder-marks E B (at-encoder.insert name value room) = encoder.insert-ways Unwritten E (λ a z. B) name value room (λ i e n v fits w. B)
 encoder-marks E B (at-encoder.delete i room) = encoder.delete-ways Unwritten E (λ a z. B) i room (λ e there still fits. B)
 encoder-marks E B (at-encoder.block s part fs room) =
-    encoder.block-ways Unwritten E (λ a z. B) s part fs room (λ p rs chosen e below turn short fits. mark-below s below (E .written) B p)
+    encoder.block-ways Unwritten E (λ a z. B) s part fs room (λ p rs chosen e below turn short fits. block-below s below (E .written) B p)
 encoder-marks E B (at-encoder.acknowledged i taken) = encoder.acknowledged-ways Unwritten E (λ a z. B) i taken (λ e there gone. B)
 encoder-marks E B (at-encoder.unread number) = B
 

@@ -1,7 +1,7 @@
 -- Which blocks of bytes could still be accepted: those that the model could still accept, by the model's calls.
 -- And the block with a held entry's index alone, where a part is unfinished: its bytes read back, and they are accepted as in the model.
-use mathlib.Core.Path.{_≡_, refl, sym, ap, _∙_}
-use Prim.Native.Nat.{ℕ, zero, suc, _≤_, _<_}
+use mathlib.Core.Path.{_≡_, sym, ap, _∙_}
+use Prim.Native.Nat.{ℕ, _≤_, _<_}
 use native.Mathlib.Omega.{arith}
 use mathlib.Core.Bool.{Bool, true, false, _&&_}
 use mathlib.Core.List.{List, [], _∷_, append-nil}
@@ -9,7 +9,7 @@ use lib.ListN.{length, replicate, length-replicate}
 use borrow.Author.Tests.{lt-ltb}
 use Rattle.memory.specs.Choice.{pick}
 use Rattle.memory.specs.Bytes.{Small}
-use Rattle.memory.proofs.Order.{either, pick-true}
+use Rattle.memory.proofs.Order.{pick-true}
 use Rattle.integers.specs.Answers.{Answer, out-of-turn}
 use Rattle.integers.specs.Integer.{intWire}
 use Rattle.integers.proofs.Lengths.{int-length, int-bytes-small}
@@ -21,21 +21,21 @@ use Rattle.blocks.specs.Reading.{BlockRead, block, readBlock}
 use Rattle.blocks.specs.Meaning.{Slot, holds, list, blockMeaning, fieldMeaning, onSlot, afterField}
 use Rattle.blocks.proofs.Back.{block-back}
 use Rattle.blocks.proofs.Whole.{block-fine}
-use Rattle.model.specs.Parts.{Part, nontrailer, trailer, partNumber, partOf, Marks, mark, inTurn, streams}
+use Rattle.model.specs.Parts.{Part, partNumber, partOf, Marks, blockMarks, inTurn, streams}
 use Rattle.model.specs.Outcome.{fields, Outcome, finish}
 use Rattle.model.specs.Decoder.{Decoder, lookup, withFinished}
 use Rattle.model.specs.DecoderCalls.{decoderCall, afterDecoder}
 use Rattle.model.specs.DecoderCalls as at-decoder
 use Rattle.model_laws.specs.Ready as model
-use Rattle.model_laws.proofs.Marks.{part-back, mark-same, nontrailer-turn, trailer-turn}
+use Rattle.model_laws.proofs.Marks.{part-back, open-turn}
 use Rattle.model_laws.proofs.CouldStill.{takes}
 use Rattle.parts.specs.Turn.{partTurn}
 use Rattle.reply.specs.Result.{Result, stepped}
-use Rattle.link.specs.Calls.{DecoderCall, decoderResult, DecoderBytes, decoderAfter}
+use Rattle.link.specs.Calls.{DecoderCall, decoderResult, decoderAfter}
 use Rattle.link.specs.Calls as calls
 use Rattle.link.specs.Claims.{CouldStill}
 use Rattle.link.proofs.Lifted.{StandsDecoder, readBlockCall, decoderCallOf}
-use Rattle.link.proofs.DecoderLifting.{same-decoder, lift-decoder}
+use Rattle.link.proofs.DecoderLifting.{same-decoder}
 use Rattle.link.proofs.Runs.{decoderCallsOf, fine-decoders, after-decoder}
 
 -- a call's answer is the model's, whatever output is lent
@@ -85,7 +85,7 @@ in-turn marks s p low turn = ap (partTurn marks s) (part-back p) ∙ ap (λ (t :
 
 block-takes : (D : Decoder) (s : ℕ) (p : Part) (rs : List Representation) (fs : List Field) → AllFine rs → length (blockWire rs) ≤ 16384
     → s < streams → inTurn (D .finished) s p ≡ true → blockMeaning (lookup D) rs ≡ list fs
-    → decoderCall D (decoderCallOf D (callOf s p rs fs)) ≡ finish (withFinished D (mark s p (D .finished))) (length (listForm fs)) 0 (fields fs)
+    → decoderCall D (decoderCallOf D (callOf s p rs fs)) ≡ finish (withFinished D (blockMarks p s (D .finished))) (length (listForm fs)) 0 (fields fs)
 unfolding decoderCallOf
 block-takes D s p rs fs fine short low turn means =
     let n = length (listForm fs) in
@@ -132,37 +132,7 @@ one-takes m D h i f e held s p low turn =
           (block-takes D s p (indexed i ∷ []) fs (one-fine i f) (one-short i) low turn (one-means (lookup D) i e held));
     }
 
--- what could be accepted after a call, could be before it
-before : (m : List ℕ) (c : DecoderCall) (s : ℕ) (p : Part) (b : List ℕ) → DecoderBytes c → CouldStill (decoderResult m c .memory) s p b → CouldStill m s p b
-unfolding decoderAfter
-before m c s p b bytes k = record { first = c ∷ k .first; bytes = (bytes, k .bytes); output = k .output; accepted = k .accepted }
-
-small-none : Small []
-small-none zero = omega arith
-small-none (suc k) = omega arith
-
--- the empty non-trailer block
-empty-takes : (D : Decoder) (s : ℕ) → s < streams → D .finished s nontrailer ≡ false
-    → decoderCall D (decoderCallOf D (calls.DecoderCall.block s 0 [] [])) .state ≡ withFinished D (mark s nontrailer (D .finished))
-unfolding blockWire listForm blockMeaning
-empty-takes D s low unmarked =
-    ap (λ (o : Outcome Decoder). o .state)
-    (block-takes D s nontrailer [] [] tt (omega arith) low (nontrailer-turn (D .finished) s unmarked) refl)
-
-same-lookup : (D : Decoder) (marks : Marks) → lookup (withFinished D marks) ≡ lookup D
-unfolding lookup
-same-lookup D marks = refl
-
 -- an unfinished part can still take a block that refers to a held entry
 pub open-takes : (m : List ℕ) (D : Decoder) → StandsDecoder m D → (i : ℕ) → FineIndex i → (e : Entry) → lookup D i ≡ holds e
     → (s : ℕ) (p : Part) → s < streams → D .finished s p ≡ false → CouldStill m s p (blockWire (indexed i ∷ []))
-open-takes m D h i f e held s nontrailer low unmarked = one-takes m D h i f e held s nontrailer low (nontrailer-turn (D .finished) s unmarked)
-open-takes m D h i f e held s trailer low unmarked =
-    either (D .finished s nontrailer)
-    (λ t. one-takes m D h i f e held s trailer low (trailer-turn (D .finished) s t unmarked))
-    (λ t. let after = withFinished D (mark s nontrailer (D .finished)) in
-    let c = calls.DecoderCall.block s 0 [] [] in
-    before m c s trailer (blockWire (indexed i ∷ [])) (small-none, small-none)
-    (one-takes (decoderResult m c .memory) after (rw (empty-takes D s low t) at (lift-decoder m D h c (small-none, small-none) .stands)) i f e
-    (ap (λ (l : ℕ → Slot). l i) (same-lookup D _) ∙ held) s trailer low
-    (trailer-turn (after .finished) s (mark-same s nontrailer nontrailer (D .finished)) (mark-same s nontrailer trailer (D .finished) ∙ unmarked))))
+open-takes m D h i f e held s p low unmarked = one-takes m D h i f e held s p low (open-turn (D .finished) s p unmarked)

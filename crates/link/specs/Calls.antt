@@ -6,11 +6,11 @@ use lib.ListN.{take}
 use lib.Dec.{eqb}
 use Rattle.memory.specs.Choice.{pick}
 use Rattle.memory.specs.Bytes.{Small}
-use Rattle.model.specs.Parts.{Closing, ended}
+use Rattle.model.specs.Parts.{Closing, over, ended}
 use Rattle.state.specs.Layout.{decoderLength, encoderLength}
 use Rattle.state.specs.Forms.{formsDecoder, formsEncoder}
 use Rattle.reply.specs.Result.{Result}
-use Rattle.decoder.specs.Calls.{readCall, endedCall, holdCall, collectCall}
+use Rattle.decoder.specs.Calls.{readCall, overCall, endedCall, holdCall, collectCall}
 use Rattle.decoder.specs.Calls as decoder
 use Rattle.encoder.specs.Calls.{insertCall, deleteCall, acknowledgeCall}
 use Rattle.encoder.specs.Calls as encoder
@@ -25,6 +25,7 @@ pub data DecoderCall : Type 0 where
 
 -- parts of a stream closed by the host
 abbrev pub closeCall : List ℕ → Closing → ℕ → Result
+closeCall m over stream = overCall m stream
 closeCall m ended stream = endedCall m stream
 
 unfoldable pub decoderResult : List ℕ → DecoderCall → Result

@@ -16,7 +16,7 @@ use Rattle.instructions.specs.Instruction.{Instruction, acknowledge, FineIndex,
 use Rattle.blocks.specs.Representation.{Representation}
 use Rattle.blocks.specs.Reading.{block, readBlock}
 use Rattle.blocks.specs.Meaning.{Refers}
-use Rattle.model.specs.Parts.{Part, nontrailer, trailer, partNumber, ended, Delete}
+use Rattle.model.specs.Parts.{Part, nontrailer, trailer, partNumber, over, ended, Delete}
 use Rattle.model.specs.Decoder.{deleteOf, without}
 use Rattle.model.specs.Happened.{Happened, after, heldBy, deletionBy}
 use Rattle.model.specs.Events.{at}
@@ -251,6 +251,10 @@ pub record Accepted (n : ℕ) (es : List Event) : Type 0 where
 abbrev pub MayRead : List ℕ → ℕ → List ℕ → Type 0
 MayRead written count s = (rest : List ℕ) × (drop count written ≡ s ++ rest)
 
+-- all non-trailer blocks ever written on the stream s were answered "done" in xs
+abbrev pub NontrailersDone : List Event → ℕ → List Event → Type 0
+NontrailersDone es s xs = (k : ℕ) (w : Written) → at k (writtenIn es) ≡ some w → w .stream ≡ s → w .part ≡ 0 → Accepted k xs
+
 pub record Rules (es : List Event) : Type 0 where
   pub management : (xs ys : List Event) (n : ℕ) (s : List ℕ) (r : Result) → es ≡ xs ++ (byDecoder n (calls.DecoderCall.read s) r ∷ ys)
       → MayRead (managementIn xs) (readIn xs) s
@@ -263,9 +267,12 @@ pub record Rules (es : List Event) : Type 0 where
   -- "and never again once answered "done""
   pub once : (xs ys : List Event) (n s part : ℕ) (b out : List ℕ) (r : Result)
       → es ≡ xs ++ (byDecoder n (calls.DecoderCall.block s part b out) r ∷ ys) → Accepted n xs → ⊥
-  -- "a trailer is offered only after its stream's non-trailer block was answered "done""
+  -- "a trailer is offered, and "over" is said, only after all non-trailer blocks ever written on its stream were answered "done", or for "over" the stream
+  -- was reset"
   pub trailers : (xs ys : List Event) (n s : ℕ) (b out : List ℕ) (r : Result) → es ≡ xs ++ (byDecoder n (calls.DecoderCall.block s 1 b out) r ∷ ys)
-      → (k : ℕ) × (w : Written) × (at k (writtenIn xs) ≡ some w) × (w .stream ≡ s) × (w .part ≡ 0) × Accepted k xs
+      → NontrailersDone es s xs
+  pub overs : (xs ys : List Event) (n s : ℕ) (r : Result) → es ≡ xs ++ (byDecoder n (calls.DecoderCall.close over s) r ∷ ys) → r .answer .number ≡ 0
+      → NontrailersDone es s xs ⊎ List·Memᴰ (Event.reset s) xs
   -- "a stream is told as ended only after every block ever written on it was answered "done", or it was reset"
   pub ends : (xs ys : List Event) (n s : ℕ) (r : Result) → es ≡ xs ++ (byDecoder n (calls.DecoderCall.close ended s) r ∷ ys) → r .answer .number ≡ 0
       → ((k : ℕ) (w : Written) → at k (writtenIn es) ≡ some w → w .stream ≡ s → Accepted k xs) ⊎ List·Memᴰ (Event.reset s) xs

@@ -1,5 +1,5 @@
--- What is claimed of each table by the history of its calls: what it holds, what is under deletion, the held size; at the encoder that lowest means
--- lowest, and what a written delete says.
+-- What is claimed of each table by the history of its calls: what it holds, what is under deletion, the held size, which blocks are in turn; at the
+-- encoder that lowest means lowest, and what a written delete says.
 use mathlib.Core.Path.{_≡_}
 use mathlib.Core.Logic.{_↔_, _⊎_}
 use Prim.Native.Nat.{ℕ, suc, _+_, _≤_, _<_, max}
@@ -24,13 +24,14 @@ use Rattle.blocks.specs.Reading as reading
 use Rattle.blocks.specs.Meaning.{holds, withStatics, list, blockMeaning, blockReferences}
 use Rattle.blocks.specs.Meaning as meaning
 use Rattle.model.specs.Table.{look}
-use Rattle.model.specs.Parts.{Part, nontrailer, trailer, partOf, partNumber, Marks, noMarks, mark, closed, Delete, openBelow, lowestOpen, streams}
+use Rattle.model.specs.Parts.{Part, nontrailer, trailer, partOf, partNumber, Marks, noMarks, blockMarks, closed, Delete, openBelow, lowestOpen, streams}
 use Rattle.model.specs.Decoder.{heldIndex, slotIn, deleteOf, ready}
 use Rattle.model.specs.Encoder.{mentions, emptyList}
 use Rattle.model.specs.Happened.{Happened, inserted, deleted, freed, after, heldBy, deletionBy, contentsBy, Contents, empty, isHeld, addedBy, removedBy, sumOf}
 use Rattle.state.specs.Layout.{heldOf}
 use Rattle.state.specs.DecoderState.{decoderOf}
-use Rattle.state.specs.Forms.{formsDecoder}
+use Rattle.state.specs.EncoderState.{encoderOf}
+use Rattle.state.specs.Forms.{formsDecoder, formsEncoder}
 use Rattle.parts.specs.Turn.{partTurn}
 use Rattle.reply.specs.Result.{Result}
 use Rattle.decoder.specs.Calls as decoder
@@ -62,10 +63,10 @@ pub record BlockMeans (t : Contents) (b : List ℕ) (r : Result) : Type 0 where
   pub waits : r .answer .number ≡ 1
       → (rs : List Representation) × (readBlock b ≡ block rs) × (blockMeaning (withStatics t) rs ≡ meaning.BlockMeaning.waits (r .answer .first))
 
--- ---- finished parts: "A non-trailer block answered "done" finishes its part .. the same for the trailer"; a closing answered "done" finishes its own
+-- ---- finished parts: "a non-trailer block does not finish its part", a trailer block answered "done" finishes both; a closing answered "done" finishes its own
 unfoldable pub finishes : Option Part → ℕ → Marks → Marks
 finishes none s f = f
-finishes (some p) s f = mark s p f
+finishes (some p) s f = blockMarks p s f
 
 unfoldable pub finishedBy : Marks → DecoderCall → Result → Marks
 finishedBy f (calls.DecoderCall.read s) r = f
@@ -107,7 +108,7 @@ pub record Agrees (m : List ℕ) (contents : Contents) (deletions : ℕ → Opti
   pub hold : (i : ℕ) → decoderResult (decoderAfter m cs) (calls.DecoderCall.hold i) .answer
       ≡ holdAnswer (after (heldBy i) (isHeld (contents i)) (history m cs)) (after (deletionBy i) (deletions i) (history m cs)) (finishedAfter finished m cs) i
   pub enquiry : (i : ℕ) → Ready (decoderAfter m cs) i ↔ (ready (decoderOf (decoderAfter m cs)) i ≡ true)
-  -- "Out of turn: a part already finished .., or a trailer before its non-trailer", "stream above 4,095, part number not 0 .. or 1": 11 exactly then
+  -- out of turn is a part already finished; "stream above 4,095, part number not 0 .. or 1": 11 exactly then
   pub turn : (stream part : ℕ) (b out : List ℕ) → Small b → Small out
       → (decoderResult (decoderAfter m cs) (calls.DecoderCall.block stream part b out) .answer .number ≡ 11)
       ↔ (partTurn (finishedAfter finished m cs) stream (partOf part) ≡ false)
@@ -194,6 +195,26 @@ unfoldable pub horizonOf : List ℕ → ℕ
 horizonOf [] = 0
 horizonOf (s ∷ ss) = max (suc s) (horizonOf ss)
 
+-- ---- closed parts: a non-trailer block closes nothing, a trailer block answered "done" closes its own part and "at the encoder closes" the non-trailer
+-- one; no other call closes any
+unfoldable pub closedBy : Marks → EncoderCall → Result → Marks
+closedBy f (calls.EncoderCall.insert name value out) r = f
+closedBy f (calls.EncoderCall.delete index out) r = f
+closedBy f (calls.EncoderCall.block stream part s out) r = pick (eqb (r .answer .number) 0) (finishes (partOf part) stream f) f
+closedBy f (calls.EncoderCall.acknowledge s) r = f
+
+unfoldable pub closedAfter : Marks → List ℕ → List EncoderCall → Marks
+closedAfter f m [] = f
+closedAfter f m (c ∷ cs) = closedAfter (closedBy f c (encoderResult m c)) (encoderResult m c .memory) cs
+
+-- "A further non-trailer block on an unfinished part is in turn, at both ends; a trailer may come while the non-trailer part is open, even with no block
+-- before it, and at the encoder closes it": after calls from the memory m, in which f is closed, 11 exactly where the part is closed there or by them,
+-- or for "stream above 4,095, part number not 0 .. or 1"
+abbrev pub TurnBy : Marks → List ℕ → List EncoderCall → Type 0
+TurnBy f m cs = (stream part : ℕ) (s out : List ℕ) → Small s → Small out
+    → (encoderResult (encoderAfter m cs) (calls.EncoderCall.block stream part s out) .answer .number ≡ 11)
+    ↔ (partTurn (closedAfter f m cs) stream (partOf part) ≡ false)
+
 -- what an encoder's calls do after calls from the memory m, that of a start
 pub record EncoderHistory (m : List ℕ) (cs : List EncoderCall) : Type 0 where
   -- "At every moment it equals the sizes of all inserts done less the sizes of all entries freed since the start."
@@ -210,6 +231,8 @@ pub record EncoderHistory (m : List ℕ) (cs : List EncoderCall) : Type 0 where
       → let r = encoderResult (encoderAfter m cs) (calls.EncoderCall.block stream part s out) in r .answer .number ≡ 0
       → (fs : List Field) × (rs : List Representation) × (readFieldList s ≡ lists.FieldListRead.list fs) × (readBlock (doneBytes r) ≡ block rs)
       × (doneBytes r ≡ blockWire rs) × AllWrittenFor (historyThere m cs) fs rs
+  -- which blocks are in turn: nothing is closed at first
+  pub turn : TurnBy noMarks m cs
   -- "A delete is written with empty lists", and its horizons
   pub delete-says : (i : ℕ) (out : List ℕ) → Small out
       → let r = encoderResult (encoderAfter m cs) (calls.EncoderCall.delete i out) in r .answer .number ≡ 0
@@ -234,3 +257,5 @@ pub record HistoriesClaim : Type 0 where
       → heldOf (encoderAfter (encoder.startCall m limit .memory) cs) ≤ limit
   pub encoder-history : (m : List ℕ) (limit : ℕ) → Small m → encoder.startCall m limit .answer .number ≡ 0 → (cs : List EncoderCall) → AllEncoderBytes cs
       → EncoderHistory (encoder.startCall m limit .memory) cs
+  -- and from other memory that forms a state, which blocks are in turn
+  pub encoder-turn : (m : List ℕ) → Small m → formsEncoder m ≡ true → (cs : List EncoderCall) → AllEncoderBytes cs → TurnBy (encoderOf m .written) m cs

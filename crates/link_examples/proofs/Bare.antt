@@ -8,7 +8,6 @@ use lib.ListN.{length, take, drop}
 use lib.Dec.{eqb}
 use Rattle.memory.specs.Choice.{pick}
 use Rattle.integers.specs.Answers.{Answer}
-use Rattle.model.specs.Parts.{ended}
 use Rattle.reply.specs.Result.{Result}
 use Rattle.link.specs.Calls.{DecoderCall, EncoderCall, doneBytes}
 use Rattle.link.specs.Calls as calls
@@ -123,7 +122,7 @@ same-read-event : (ever : List Written) (P : Past) (n : ℕ) (c : DecoderCall) (
     → keepsEvent ever P (again (byDecoder n c r)) ≡ keepsEvent ever P (byDecoder n c r)
 same-read-event ever P n (calls.DecoderCall.read s) r = refl
 same-read-event ever P n (calls.DecoderCall.block stream part s out) r = refl
-same-read-event ever P n (calls.DecoderCall.close ended stream) r = refl
+same-read-event ever P n (calls.DecoderCall.close k stream) r = refl
 same-read-event ever P n (calls.DecoderCall.collect out) r = refl
 same-read-event ever P n (calls.DecoderCall.hold index) r = refl
 

@@ -1,4 +1,4 @@
--- The claim of the two examples. What is shown of the calls is computed on the model's states, and the rules are tested on what is shown.
+-- The claim of the three examples. What is shown of the calls is computed on the model's states, and the rules are tested on what is shown.
 use mathlib.Core.Path.{_≡_, refl, sym, ap, _∙_}
 use Prim.Native.Nat.{ℕ}
 use native.Mathlib.Omega.{arith}
@@ -12,14 +12,14 @@ use Rattle.encoder.specs.Calls as encoder
 use Rattle.link.specs.Claims.{Ends, events, Rules, AllLinkBytes, Started}
 use Rattle.link.proofs.LinkClaim.{fresh-ends, link-claim}
 use Rattle.link.proofs.TableStarts.{encoder-starts, decoder-starts, small-zeros}
-use Rattle.link_examples.specs.Examples.{Shown, shown, callsOf, Example, life, accident, largest, ExamplesClaim}
+use Rattle.link_examples.specs.Examples.{Shown, shown, callsOf, Example, life, accident, interim, largest, ExamplesClaim}
 use Rattle.link_examples.proofs.Seen.{shown-seen}
 use Rattle.link_examples.proofs.Computing.{computed}
 use Rattle.link_examples.proofs.RulesCheck.{keeps}
 use Rattle.link_examples.proofs.RulesSound.{keeps-sound}
 use Rattle.link_examples.proofs.Bare.{bare, same-keeps}
 use Rattle.link_examples.proofs.CallBytes.{all-bytes}
-use Rattle.link_examples.proofs.Tables.{Computed, life-computed, accident-computed}
+use Rattle.link_examples.proofs.Tables.{Computed, life-computed, accident-computed, interim-computed}
 
 -- ---- a table that computes is an example
 module _ (t : List Shown) (C : Computed t) (S : Ends) (T : Started largest S) where
@@ -62,4 +62,9 @@ started =
     (length-replicate {A = ℕ} encoderLength 0) (length-replicate {A = ℕ} decoderLength 0)
 
 pub examples-claim : ExamplesClaim
-examples-claim = record { life-of-62 = example life life-computed; late-report = example accident accident-computed; some-start = started }
+examples-claim = record {
+  life-of-62 = example life life-computed;
+  late-report = example accident accident-computed;
+  interim-answers = example interim interim-computed;
+  some-start = started;
+}

@@ -8,6 +8,6 @@ pub mod RulesSound
 pub mod Bare
 -- what is given and lent is bytes
 pub mod CallBytes
--- the two tables
+-- the three tables
 pub mod Tables
 pub mod ExamplesClaim

@@ -18,11 +18,7 @@ module _ {X : Type 0} where
   any test [] = false
   any test (x ∷ l) = test x || any test l
 
-  -- one passes with its place, and every one does
-  abbrev pub anyAt : (ℕ → X → Bool) → List X → Bool
-  anyAt test [] = false
-  anyAt test (x ∷ l) = test 0 x || anyAt (λ n. test (suc n)) l
-
+  -- every one passes, with its place
   abbrev pub allAt : (ℕ → X → Bool) → List X → Bool
   allAt test [] = true
   allAt test (x ∷ l) = test 0 x && allAt (λ n. test (suc n)) l
@@ -55,13 +51,6 @@ module _ {X : Type 0} where
   member-any test (y ∷ l) x m t =
       ⊎-elim (λ p. or-left (test y) (any test l) (sym (ap test p) ∙ t))
       (λ k. or-right (test y) (any test l) (member-any test l x k t)) (List·Memᴰ·cases-cons m)
-
-  pub anyAt-place : (test : ℕ → X → Bool) (l : List X) → anyAt test l ≡ true → (m : ℕ) × (x : X) × (at m l ≡ some x) × (test m x ≡ true)
-  unfolding at
-  anyAt-place test [] e = not-both false e refl
-  anyAt-place test (x ∷ l) e = ⊎-elim (λ t. (0, x, refl, t))
-      (λ t. let r = anyAt-place (λ n. test (suc n)) l t in (suc (r .0), r .1, r .2, r .3))
-      (or-either (test 0 x) (anyAt (λ n. test (suc n)) l) e)
 
   pub allAt-place : (test : ℕ → X → Bool) (l : List X) → allAt test l ≡ true → (n : ℕ) (x : X) → at n l ≡ some x → test n x ≡ true
   unfolding at

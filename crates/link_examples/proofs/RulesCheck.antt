@@ -7,12 +7,12 @@ use lib.ListN.{length, drop}
 use lib.Dec.{eqb, leb}
 use Rattle.memory.specs.Compare.{same}
 use Rattle.model.specs.Events.{at}
-use Rattle.model.specs.Parts.{Closing, ended}
+use Rattle.model.specs.Parts.{Closing, over, ended}
 use Rattle.reply.specs.Result.{Result}
 use Rattle.link.specs.Calls.{DecoderCall, EncoderCall}
 use Rattle.link.specs.Calls as calls
 use Rattle.link.specs.Claims.{Event, byEncoder, byDecoder, managementIn, readIn, acknowledgementsIn, acknowledgedIn, Written, writtenFrom, writtenIn}
-use Rattle.link_examples.proofs.ListTests.{any, anyAt, allAt, passes}
+use Rattle.link_examples.proofs.ListTests.{any, allAt, passes}
 
 -- the bytes l begin with s
 abbrev pub begins : List ℕ → List ℕ → Bool
@@ -65,13 +65,18 @@ abbrev pub asWritten : ℕ → ℕ → List ℕ → List ℕ → Written → Boo
 asWritten stream part s out w =
     eqb (w .stream) stream && eqb (w .part) part && same (w .bytes) s && leb (length (w .list)) (length out)
 
--- the k-th block is the non-trailer block of the stream, and was answered "done"
-abbrev pub acceptedNontrailer : Past → ℕ → ℕ → Written → Bool
-acceptedNontrailer P stream k w = eqb (w .stream) stream && eqb (w .part) 0 && P .accepted k
-
 -- the n-th block is of another stream, or was answered "done"
 abbrev pub otherOrAccepted : Past → ℕ → ℕ → Written → Bool
 otherOrAccepted P stream n w = not (eqb (w .stream) stream) || P .accepted n
+
+-- or it is a trailer
+abbrev pub trailerOrAccepted : Past → ℕ → ℕ → Written → Bool
+trailerOrAccepted P stream n w = not (eqb (w .part) 0) || otherOrAccepted P stream n w
+
+-- what is asked of every block ever written before parts of the stream are closed
+abbrev pub beforeClosing : Closing → Past → ℕ → ℕ → Written → Bool
+beforeClosing over P stream n w = trailerOrAccepted P stream n w
+beforeClosing ended P stream n w = otherOrAccepted P stream n w
 
 -- one event, after a past, in a list in which these blocks are ever written
 abbrev pub keepsWrite : Past → EncoderCall → Bool
@@ -84,9 +89,9 @@ abbrev pub keepsRead : List Written → Past → ℕ → DecoderCall → Result 
 keepsRead ever P n (calls.DecoderCall.read s) r = begins s (P .management)
 keepsRead ever P n (calls.DecoderCall.block stream part s out) r =
     passes (asWritten stream part s out) (at n (P .written)) && not (P .accepted n)
-    && (not (eqb part 1) || anyAt (acceptedNontrailer P stream) (P .written)) && not (P .reset stream)
-keepsRead ever P n (calls.DecoderCall.close ended stream) r =
-    not (eqb (r .answer .number) 0) || (allAt (otherOrAccepted P stream) ever || P .reset stream)
+    && (not (eqb part 1) || allAt (trailerOrAccepted P stream) ever) && not (P .reset stream)
+keepsRead ever P n (calls.DecoderCall.close k stream) r =
+    not (eqb (r .answer .number) 0) || (allAt (beforeClosing k P stream) ever || P .reset stream)
 keepsRead ever P n (calls.DecoderCall.collect out) r = true
 keepsRead ever P n (calls.DecoderCall.hold index) r = true
 

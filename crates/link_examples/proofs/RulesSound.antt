@@ -12,15 +12,15 @@ use borrow.Author.Tests.{eqb-true, eq-eqb, leb-true, not-true}
 use Rattle.memory.specs.Compare.{same}
 use Rattle.memory.proofs.Order.{not-both}
 use Rattle.memory.proofs.Sameness.{same-eq}
-use Rattle.model.specs.Parts.{ended}
+use Rattle.model.specs.Parts.{Closing, over, ended}
 use Rattle.model.specs.Events.{at}
 use Rattle.model_laws.proofs.Marks.{and-both, or-either}
 use Rattle.reply.specs.Result.{Result}
 use Rattle.link.specs.Calls.{DecoderCall}
 use Rattle.link.specs.Calls as calls
-use Rattle.link.specs.Claims.{Event, byEncoder, byDecoder, Written, writtenIn, Accepted, Rules}
-use Rattle.link_examples.proofs.ListTests.{any, anyAt, allAt, passes, passes-some, any-member, member-any, anyAt-place, allAt-place}
-use Rattle.link_examples.proofs.RulesCheck.{begins, isAccepted, isDone, isReset, past, asWritten, acceptedNontrailer, otherOrAccepted, keepsEvent, keepsFrom, keeps}
+use Rattle.link.specs.Claims.{Event, byEncoder, byDecoder, Written, writtenIn, Accepted, NontrailersDone, Rules}
+use Rattle.link_examples.proofs.ListTests.{any, allAt, passes, passes-some, any-member, member-any, allAt-place}
+use Rattle.link_examples.proofs.RulesCheck.{begins, isAccepted, isDone, isReset, past, asWritten, otherOrAccepted, trailerOrAccepted, beforeClosing, keepsEvent, keepsFrom, keeps}
 
 -- ---- what the tests say
 begins-sound : (s l : List ℕ) → begins s l ≡ true → (rest : List ℕ) × (l ≡ s ++ rest)
@@ -77,6 +77,18 @@ event-keeps ever before (x ∷ xs) ys e k =
     rw append-assoc at (event-keeps ever (before ++ (x ∷ [])) xs ys e
     (and-both (keepsEvent ever (past before) x) (keepsFrom ever (before ++ (x ∷ [])) (xs ++ (e ∷ ys))) k .1))
 
+-- a block that passes, and is of the stream, was answered "done"
+other-sound : (xs : List Event) (stream n : ℕ) (w : Written) → otherOrAccepted (past xs) stream n w ≡ true → w .stream ≡ stream → Accepted n xs
+unfolding past
+other-sound xs stream n w t e =
+    ⊎-elim (λ u. not-both (eqb (w .stream) stream) (eq-eqb (w .stream) stream e) (not-true (eqb (w .stream) stream) u)) (λ u. accepted-sound n xs u)
+    (or-either (not (eqb (w .stream) stream)) (any (isDone n) xs) t)
+
+trailer-sound : (xs : List Event) (stream n : ℕ) (w : Written) → trailerOrAccepted (past xs) stream n w ≡ true → w .stream ≡ stream → w .part ≡ 0 → Accepted n xs
+trailer-sound xs stream n w t e z =
+    ⊎-elim (λ u. not-both (eqb (w .part) 0) (eq-eqb (w .part) 0 z) (not-true (eqb (w .part) 0) u)) (λ u. other-sound xs stream n w u e)
+    (or-either (not (eqb (w .part) 0)) (otherOrAccepted (past xs) stream n w) t)
+
 module _ (es : List Event) (k : keeps es ≡ true) where
   at-event : (xs ys : List Event) (e : Event) → es ≡ xs ++ (e ∷ ys) → keepsEvent (writtenIn es) (past xs) e ≡ true
   unfolding keeps
@@ -85,12 +97,12 @@ module _ (es : List Event) (k : keeps es ≡ true) where
   module _ (xs ys : List Event) (n stream part : ℕ) (s out : List ℕ) (r : Result) (p : es ≡ xs ++ (byDecoder n (calls.DecoderCall.block stream part s out) r ∷ ys)) where
     -- what the test says of an offered block
     offer-keeps : (passes (asWritten stream part s out) (at n (writtenIn xs)) ≡ true) × (not (any (isDone n) xs) ≡ true)
-        × (not (eqb part 1) || anyAt (acceptedNontrailer (past xs) stream) (writtenIn xs) ≡ true) × (not (any (isReset stream) xs) ≡ true)
+        × (not (eqb part 1) || allAt (trailerOrAccepted (past xs) stream) (writtenIn es) ≡ true) × (not (any (isReset stream) xs) ≡ true)
     unfolding past
     offer-keeps =
         let W = passes (asWritten stream part s out) (at n (writtenIn xs)) in
         let N = not (any (isDone n) xs) in
-        let T = not (eqb part 1) || anyAt (acceptedNontrailer (past xs) stream) (writtenIn xs) in
+        let T = not (eqb part 1) || allAt (trailerOrAccepted (past xs) stream) (writtenIn es) in
         let h = and-both (W && N && T) (not (any (isReset stream) xs)) (at-event xs ys (byDecoder n (calls.DecoderCall.block stream part s out) r) p) in
         let g = and-both (W && N) T (h .0) in
         let f = and-both W N (g .0) in
@@ -122,36 +134,33 @@ module _ (es : List Event) (k : keeps es ≡ true) where
     resets m = not-both (any (isReset stream) xs) (reset-complete stream xs m) (not-true (any (isReset stream) xs) (offer-keeps .3))
 
   trailers : (xs ys : List Event) (n stream : ℕ) (s out : List ℕ) (r : Result) → es ≡ xs ++ (byDecoder n (calls.DecoderCall.block stream 1 s out) r ∷ ys)
-      → (j : ℕ) × (w : Written) × (at j (writtenIn xs) ≡ some w) × (w .stream ≡ stream) × (w .part ≡ 0) × Accepted j xs
+      → NontrailersDone es stream xs
+  trailers xs ys n stream s out r p k w q =
+      trailer-sound xs stream k w (allAt-place (trailerOrAccepted (past xs) stream) (writtenIn es) (offer-keeps xs ys n stream 1 s out r p .2) k w q)
+
+  -- parts closed: every block ever written passes, or the stream was reset
+  closes : (k : Closing) (xs ys : List Event) (n stream : ℕ) (r : Result) → es ≡ xs ++ (byDecoder n (calls.DecoderCall.close k stream) r ∷ ys)
+      → r .answer .number ≡ 0
+      → ((j : ℕ) (w : Written) → at j (writtenIn es) ≡ some w → beforeClosing k (past xs) stream j w ≡ true) ⊎ List·Memᴰ (Event.reset stream) xs
   unfolding past
-  trailers xs ys n stream s out r p =
-      let q = anyAt-place (acceptedNontrailer (past xs) stream) (writtenIn xs) (offer-keeps xs ys n stream 1 s out r p .2) in
-      let j = q .0 in
-      let w = q .1 in
-      let h = and-both (eqb (w .stream) stream && eqb (w .part) 0) (any (isDone j) xs) (q .3) in
-      let g = and-both (eqb (w .stream) stream) (eqb (w .part) 0) (h .0) in
-      (j, w, q .2, eqb-true (w .stream) stream (g .0), eqb-true (w .part) 0 (g .1), accepted-sound j xs (h .1))
+  closes k xs ys n stream r p z =
+      ⊎-elim (λ t. not-both (eqb (r .answer .number) 0) (eq-eqb (r .answer .number) 0 z) (not-true (eqb (r .answer .number) 0) t)) all-or-reset
+      (or-either (not (eqb (r .answer .number) 0)) (allAt (beforeClosing k (past xs) stream) (writtenIn es) || any (isReset stream) xs)
+      (at-event xs ys (byDecoder n (calls.DecoderCall.close k stream) r) p))
+    where
+      all-or-reset : (allAt (beforeClosing k (past xs) stream) (writtenIn es) || any (isReset stream) xs) ≡ true
+          → ((j : ℕ) (w : Written) → at j (writtenIn es) ≡ some w → beforeClosing k (past xs) stream j w ≡ true) ⊎ List·Memᴰ (Event.reset stream) xs
+      all-or-reset t =
+          ⊎-elim (λ u. inl (allAt-place (beforeClosing k (past xs) stream) (writtenIn es) u)) (λ u. inr (reset-sound stream xs u))
+          (or-either (allAt (beforeClosing k (past xs) stream) (writtenIn es)) (any (isReset stream) xs) t)
+
+  overs : (xs ys : List Event) (n stream : ℕ) (r : Result) → es ≡ xs ++ (byDecoder n (calls.DecoderCall.close over stream) r ∷ ys) → r .answer .number ≡ 0
+      → NontrailersDone es stream xs ⊎ List·Memᴰ (Event.reset stream) xs
+  overs xs ys n stream r p z = ⊎-elim (λ f. inl (λ k w q. trailer-sound xs stream k w (f k w q))) inr (closes over xs ys n stream r p z)
 
   ends : (xs ys : List Event) (n stream : ℕ) (r : Result) → es ≡ xs ++ (byDecoder n (calls.DecoderCall.close ended stream) r ∷ ys) → r .answer .number ≡ 0
-      → ((n : ℕ) (w : Written) → at n (writtenIn es) ≡ some w → w .stream ≡ stream → Accepted n xs) ⊎ List·Memᴰ (Event.reset stream) xs
-  unfolding past
-  ends xs ys m stream r p z =
-      ⊎-elim (λ t. not-both (eqb (r .answer .number) 0) (eq-eqb (r .answer .number) 0 z) (not-true (eqb (r .answer .number) 0) t)) all-or-reset
-      (or-either (not (eqb (r .answer .number) 0)) (allAt (otherOrAccepted (past xs) stream) (writtenIn es) || any (isReset stream) xs)
-      (at-event xs ys (byDecoder m (calls.DecoderCall.close ended stream) r) p))
-    where
-      each : (n : ℕ) (w : Written) → w .stream ≡ stream → otherOrAccepted (past xs) stream n w ≡ true → Accepted n xs
-      each n w e t =
-          ⊎-elim (λ u. not-both (eqb (w .stream) stream) (eq-eqb (w .stream) stream e) (not-true (eqb (w .stream) stream) u))
-          (λ u. accepted-sound n xs u)
-          (or-either (not (eqb (w .stream) stream)) (any (isDone n) xs) t)
-
-      all-or-reset : (allAt (otherOrAccepted (past xs) stream) (writtenIn es) || any (isReset stream) xs) ≡ true
-          → ((n : ℕ) (w : Written) → at n (writtenIn es) ≡ some w → w .stream ≡ stream → Accepted n xs) ⊎ List·Memᴰ (Event.reset stream) xs
-      all-or-reset t =
-          ⊎-elim (λ u. inl (λ n w q e. each n w e (allAt-place (otherOrAccepted (past xs) stream) (writtenIn es) u n w q)))
-          (λ u. inr (reset-sound stream xs u))
-          (or-either (allAt (otherOrAccepted (past xs) stream) (writtenIn es)) (any (isReset stream) xs) t)
+      → ((k : ℕ) (w : Written) → at k (writtenIn es) ≡ some w → w .stream ≡ stream → Accepted k xs) ⊎ List·Memᴰ (Event.reset stream) xs
+  ends xs ys n stream r p z = ⊎-elim (λ f. inl (λ k w q. other-sound xs stream k w (f k w q))) inr (closes ended xs ys n stream r p z)
 
 pub keeps-sound : (es : List Event) → keeps es ≡ true → Rules es
 unfolding past
@@ -162,6 +171,7 @@ keeps-sound es k = record {
   unchanged = unchanged es k;
   once = once es k;
   trailers = trailers es k;
+  overs = overs es k;
   ends = ends es k;
   resets = resets es k;
 }

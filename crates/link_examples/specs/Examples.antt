@@ -1,4 +1,4 @@
--- Two closed examples on memory and bytes: the life of an index that is used twice, and the schedule of the accident.
+-- Three closed examples on memory and bytes: the life of an index that is used twice, the schedule of the accident, and interim answers.
 -- Each is one table, a call on a line with what it answers and writes. The claim: the calls do just this, whatever memory both ends are started
 -- in; they keep the rules for the link; and so what demand 3 says holds of them.
 use mathlib.Core.Path.{_≡_}
@@ -29,6 +29,9 @@ read s = atDecoder 0 (DecoderCall.read s)
 
 abbrev pub offer : ℕ → ℕ → ℕ → List ℕ → List ℕ → LinkCall
 offer n stream part s out = atDecoder n (DecoderCall.block stream part s out)
+
+abbrev pub over : ℕ → LinkCall
+over stream = atDecoder 0 (close Closing.over stream)
 
 abbrev pub ended : ℕ → LinkCall
 ended stream = atDecoder 0 (close Closing.ended stream)
@@ -102,8 +105,9 @@ life =
     call (atEncoder (delete 62 room)) (done 5 0) delete-9 ∷
     call (read delete-9) (done 5 0) [] ∷
     call (collect room) (done 0 0) [] ∷
-    -- it comes again, and then the entry can go
+    -- it comes again, and no further one follows: then the entry can go
     call (offer 0 0 0 by-62 room) (done 5 0) h-is-9 ∷
+    call (over 0) (done 0 0) [] ∷
     call (collect room) (done 1 0) acknowledge-62 ∷
     call (atEncoder (acknowledge acknowledge-62)) (done 1 0) [] ∷
     -- the index is used again, for a trailer
@@ -152,7 +156,7 @@ block-B = 0x00 ∷ 0x84 ∷ 0x9C ∷ 0xF6 ∷ 0xD8 ∷ 0x8F ∷ 0x82 ∷ 0x64 �
 
 unfoldable pub accident : List Shown
 accident =
-    -- the streams before the late report's are over
+    -- the streams before the late report's have ended
     call (ended 0) (done 0 0) [] ∷
     call (ended 1) (done 0 0) [] ∷
     call (ended 2) (done 0 0) [] ∷
@@ -174,8 +178,58 @@ accident =
     call (offer 1 6 0 block-B room) (done 20 0) report-B ∷
     -- nor is the entry freed now
     call (collect room) (done 0 0) [] ∷
-    -- the late report arrives, and says "turns 2"
+    -- the late report arrives, and says "turns 2"; with it its stream ends
     call (offer 0 5 0 block-A room) (done 21 0) report-A ∷
+    call (ended 5) (done 0 0) [] ∷
+    call (collect room) (done 1 0) acknowledge-62 ∷
+    call (atEncoder (acknowledge acknowledge-62)) (done 1 0) [] ∷
+    []
+
+-- ==== interim answers: two informational header blocks before the final one, all of one part. The entry that both refer to is deleted after the first.
+
+-- the lists put in: a field ":status" with this value
+abbrev pub status : List ℕ → List ℕ
+status value = (0x00 ∷ 0x07 ∷ bytes ":status") ++ (length value ∷ value)
+
+abbrev pub early-hints : List ℕ
+early-hints = status (bytes "103")
+
+abbrev pub final : List ℕ
+final = status (bytes "200")
+
+-- what is written for them: the insert names by static index 8, "103" is packed; ":status 200" is the static entry 8. The two interim blocks are equal in
+-- bytes, and are two by their numbers.
+abbrev pub insert-103 : List ℕ
+insert-103 = 0xBE ∷ 0x08 ∷ 0x82 ∷ 0x08 ∷ 0x19 ∷ []
+
+abbrev pub static-8 : List ℕ
+static-8 = 0x88 ∷ []
+
+-- both blocks that refer to the entry are non-trailer blocks of stream 0: the horizons are 1 and 0
+abbrev pub delete-103 : List ℕ
+delete-103 = 0x3E ∷ 0x01 ∷ 0x00 ∷ 0x00 ∷ 0x00 ∷ []
+
+unfoldable pub interim : List Shown
+interim =
+    call (atEncoder (insert (bytes ":status") (bytes "103") room)) (done 5 62) insert-103 ∷
+    call (read insert-103) (done 5 0) [] ∷
+    call (atEncoder (EncoderCall.block 0 0 early-hints room)) (done 1 0) by-62 ∷
+    call (atEncoder (EncoderCall.block 0 0 early-hints room)) (done 1 0) by-62 ∷
+    call (atEncoder (EncoderCall.block 0 0 final room)) (done 1 0) static-8 ∷
+    -- the first comes, then the delete, whose list names the part. The first has not finished it: the entry is not freed
+    call (offer 0 0 0 by-62 room) (done 13 0) early-hints ∷
+    call (atEncoder (delete 62 room)) (done 5 0) delete-103 ∷
+    call (read delete-103) (done 5 0) [] ∷
+    call (collect room) (done 0 0) [] ∷
+    call (hold 62) (done 1 0) [] ∷
+    -- so the second still finds it, and the final one comes
+    call (offer 1 0 0 by-62 room) (done 13 0) early-hints ∷
+    call (offer 2 0 0 static-8 room) (done 13 0) final ∷
+    -- nor is it freed now: no answer to a block says that it was the last
+    call (collect room) (done 0 0) [] ∷
+    -- the host says so, and the entry can go
+    call (over 0) (done 0 0) [] ∷
+    call (hold 62) (done 0 4096) [] ∷
     call (collect room) (done 1 0) acknowledge-62 ∷
     call (atEncoder (acknowledge acknowledge-62)) (done 1 0) [] ∷
     []
@@ -187,5 +241,6 @@ largest = record { encoder-limit = 4096; decoder-limit = 4096 }
 pub record ExamplesClaim : Type 0 where
   pub life-of-62 : (S : Ends) → Started largest S → Example life S
   pub late-report : (S : Ends) → Started largest S → Example accident S
+  pub interim-answers : (S : Ends) → Started largest S → Example interim S
   -- there is such memory
   pub some-start : (S : Ends) × Started largest S

@@ -19,3 +19,7 @@ pub cleared-all : (l : List ℕ) (from i n : ℕ) → i ≤ n → n ≤ i → cl
 cleared-all l from i n h k =
     let e : i ≡ n = omega arith in
     ap (cleared l from) e
+
+-- the sums of a table, and those of its bytes alone
+pub cleared-both : (l : List ℕ) (from half n : ℕ) {m r : List ℕ} → from ≡ half → m ≡ cleared l from n → r ≡ cleared m (98304 + from) n → r ≡ cleared (cleared l half n) (98304 + half) n
+cleared-both l from half n h a b = rw (← h, ← a, b)

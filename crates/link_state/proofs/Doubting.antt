@@ -15,9 +15,9 @@ module _ (line told : ℕ) (rest : Doubt) (e : line ≡ told) where
   pub link-whole : line ≡ 0 → rest ≡ onLink told rest
   link-whole h = rw (← e, eq-eqb line 0 h)
 
-module _ (decoder encoder kept sum kept' sum' : ℕ) (t : Bool) (w : t ≡ asWritten decoder encoder kept sum) (k : kept ≡ kept') (s : sum ≡ sum') where
-  pub table-right : t ≡ true → Nothing ≡ onTable decoder encoder kept' sum'
-  table-right h = rw (← k, ← s, ← w, h)
+module _ (decoder encoder : ℕ) (noted : ℕ → ℕ → Bool) (found t : Bool) (bytes bytes' sum sum' : ℕ) (w : t ≡ asWritten decoder encoder found) (k : found ≡ noted bytes sum) (b : bytes ≡ bytes') (e : sum ≡ sum') where
+  pub table-right : t ≡ true → Nothing ≡ onTable decoder encoder (noted bytes' sum')
+  table-right h = rw (← b, ← e, ← k, ← w, h)
 
-  pub table-wrong : t ≡ false → NotAsWritten decoder ≡ onTable decoder encoder kept' sum'
-  table-wrong h = rw (← k, ← s, ← w, h)
+  pub table-wrong : t ≡ false → NotAsWritten decoder ≡ onTable decoder encoder (noted bytes' sum')
+  table-wrong h = rw (← b, ← e, ← k, ← w, h)

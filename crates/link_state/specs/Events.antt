@@ -6,7 +6,7 @@ use lib.Dec.{eqb, ltb}
 use Rattle.memory.specs.Choice.{pick}
 use Rattle.integers.specs.Answers.{among}
 use Rattle.recording.specs.declared.Kind.{Kind}
-use Rattle.recording.specs.declared.Kind.the-variants.{DecoderStart, DecoderRead, DecoderBlock, DecoderEnded, DecoderCollect, DecoderHold, EncoderStart, EncoderInsert, EncoderDelete, EncoderBlock, EncoderAcknowledge}
+use Rattle.recording.specs.declared.Kind.the-variants.{DecoderStart, DecoderRead, DecoderBlock, DecoderOver, DecoderEnded, DecoderCollect, DecoderHold, EncoderStart, EncoderInsert, EncoderDelete, EncoderBlock, EncoderAcknowledge}
 use Rattle.link_state.specs.declared.events.Side.{Side}
 use Rattle.link_state.specs.declared.events.Side.the-variants.{Decoder, Encoder}
 use Rattle.link_state.specs.declared.events.Role.{Role}
@@ -19,6 +19,7 @@ abbrev pub sideOf : Kind → Side
 sideOf DecoderStart = Decoder
 sideOf DecoderRead = Decoder
 sideOf DecoderBlock = Decoder
+sideOf DecoderOver = Decoder
 sideOf DecoderEnded = Decoder
 sideOf DecoderCollect = Decoder
 sideOf DecoderHold = Decoder
@@ -33,6 +34,7 @@ abbrev pub roleOf : Kind → Role
 roleOf DecoderStart = Start
 roleOf DecoderRead = Read
 roleOf DecoderBlock = Other
+roleOf DecoderOver = Other
 roleOf DecoderEnded = Other
 roleOf DecoderCollect = Other
 roleOf DecoderHold = Other

@@ -3,9 +3,9 @@ ghost use mathlib.Core.Path.{_≡_};
 ghost use Rattle.link_state.specs.Doubts.{doubtOf};
 use crate::ends::Ends;
 use crate::notes::NOTES;
-use crate::notes::as_written;
-use crate::notes::written;
 use crate::sums::block_sum;
+use crate::written::as_written;
+use crate::written::is_written;
 
 // Why the hours of a message cannot be told before its fields are looked at: the link is broken, at this line, or the block is not as it was
 // written for this table.
@@ -30,8 +30,9 @@ pub fn doubt_of(
         return Doubt::Broken(line);
     }
     let table = ends.decoder.table;
-    let kept = written(notes, table, stream, part);
-    if as_written(table, ends.encoder.table, kept, block_sum(block, given)) {
+    let bytes = block_sum(block, b"");
+    let found = is_written(notes, table, stream, part, bytes, block_sum(block, given));
+    if as_written(table, ends.encoder.table, found) {
         return Doubt::Nothing;
     }
     Doubt::NotAsWritten(table)

@@ -5,3 +5,4 @@ pub mod ends;
 pub mod events;
 pub mod notes;
 pub mod sums;
+pub mod written;

@@ -1,21 +1,29 @@
-// The sums of the blocks that were written, for two tables of the encoder, and the blocks that wait: a number for each part of a stream, in
-// a lent array. Streams above 4,095 and parts above 1 have no place: no block of theirs is done, and none waits.
+// What is noted of the blocks of each part of a stream, in a lent array: four sums for each of two tables of the encoder, of those that were
+// written last (`written`), and four of those that wait. Streams above 4,095 and parts above 1 have no place: no block of theirs is done, and none waits.
 ghost use mathlib.Core.Path.{_≡_};
-ghost use Prim.Native.Nat.{_≤_, _<_};
-ghost use Rattle.link_state.specs.Notes.{placeOf, halfOf, putAt, numberAt, waitingNumber, isWaiting, cleared, asWritten};
+ghost use Prim.Native.Nat.{_+_, _≤_, _<_};
+ghost use Rattle.link_state.specs.Notes.{placeOf, cleared, hasSum, without, dropped, added, waits, answered, noneWaits, anySum, isWaiting};
 
 const STREAMS: u64 = 4_096;
 
 const PARTS: u64 = 2;
 
-// How many parts all streams have, where the waiting ones begin, and how many notes there are.
+// How many sums of a part are kept.
+pub const KEPT: usize = 4;
+
+// How many parts all streams have, how many sums they have in a table, where those begin that wait, and how many notes there are.
 pub const ALL_PARTS: usize = 8_192;
 
-const WAITING: usize = 16_384;
+pub const SUMS: usize = 32_768;
 
-pub const NOTES: usize = 24_576;
+const WAITING: usize = 65_536;
 
-// Where a part has its numbers.
+pub const NOTES: usize = 163_840;
+
+// Stands for blocks that wait and are not known one by one. No sum is as large.
+const UNKNOWN: u64 = u64::MAX;
+
+// Which one of all parts a part is.
 pub enum Place {
     At(usize),
     Nowhere,
@@ -32,102 +40,147 @@ pub fn place_of(stream: u64, part: u64) -> Place
     Place::Nowhere
 }
 
-// Where the sums of a table begin: two tables after one another have places of their own.
-fn half_of(table: u64) -> usize
-    ensures { λ r. ⌜ r ≡ halfOf table ⌝ }
+// Is it one of the four from this place on?
+pub fn has_sum(notes: &[u64; NOTES], p: usize, sum: u64) -> bool
+    requires { ⌜ p + 3 < 163840 ⌝ }
+    ensures { λ r. ⌜ r ≡ hasSum (now (notes .entry)) p sum ⌝ }
 {
-    (table % 2) as usize * ALL_PARTS
+    if notes[p] == sum {
+        return true;
+    }
+    if notes[p + 1] == sum {
+        return true;
+    }
+    if notes[p + 2] == sum {
+        return true;
+    }
+    notes[p + 3] == sum
 }
 
-// Notes the sum of a block that the encoder wrote in this table.
-pub fn note_written(notes: &mut [u64; NOTES], table: u64, stream: u64, part: u64, sum: u64)
-    ensures { λ _. ⌜ now (notes .exit) ≡ putAt (now (notes .entry)) (halfOf table) (placeOf stream part) sum ⌝ }
+// A sum, at the first of the four from this place on that is free. Where none is, they stand for blocks that are not known from then on.
+fn add_sum(notes: &mut [u64; NOTES], p: usize, sum: u64)
+    requires { ⌜ p + 3 < 163840 ⌝ }
+    ensures { λ _. ⌜ now (notes .exit) ≡ added (now (notes .entry)) p sum ⌝ }
+{
+    if notes[p] == 0 {
+        notes[p] = sum;
+        return;
+    }
+    if notes[p + 1] == 0 {
+        notes[p + 1] = sum;
+        return;
+    }
+    if notes[p + 2] == 0 {
+        notes[p + 2] = sum;
+        return;
+    }
+    if notes[p + 3] == 0 {
+        notes[p + 3] = sum;
+        return;
+    }
+    notes[p] = UNKNOWN;
+}
+
+// Is one of the four from this place on a sum?
+fn any_sum(notes: &[u64; NOTES], p: usize) -> bool
+    requires { ⌜ p + 3 < 163840 ⌝ }
+    ensures { λ r. ⌜ r ≡ anySum (now (notes .entry)) p ⌝ }
+{
+    if 0 < notes[p] {
+        return true;
+    }
+    if 0 < notes[p + 1] {
+        return true;
+    }
+    if 0 < notes[p + 2] {
+        return true;
+    }
+    0 < notes[p + 3]
+}
+
+// The number at this place is 0, if it is this sum.
+fn drop_at(notes: &mut [u64; NOTES], p: usize, sum: u64)
+    requires { ⌜ p < 163840 ⌝ }
+    ensures { λ _. ⌜ now (notes .exit) ≡ without (now (notes .entry)) p sum ⌝ }
+{
+    if notes[p] == sum {
+        notes[p] = 0;
+    }
+}
+
+// The sum is none of the four from this place on.
+fn drop_sum(notes: &mut [u64; NOTES], p: usize, sum: u64)
+    requires { ⌜ p + 3 < 163840 ⌝ }
+    ensures { λ _. ⌜ now (notes .exit) ≡ dropped (now (notes .entry)) p sum ⌝ }
+{
+    drop_at(notes, p, sum);
+    drop_at(notes, p + 1, sum);
+    drop_at(notes, p + 2, sum);
+    drop_at(notes, p + 3, sum);
+}
+
+// So many numbers from this place on are 0.
+pub fn clear(notes: &mut [u64; NOTES], from: usize, count: usize)
+    requires { ⌜ from + count ≤ 163840 ⌝ }
+    ensures { λ _. ⌜ now (notes .exit) ≡ cleared (now (notes .entry)) from count ⌝ }
+{
+    let mut i: usize = 0;
+    while i < count {
+        notes[from + i] = 0;
+        i += 1;
+    }
+}
+
+// Notes that the block with this sum waits.
+pub fn note_waiting(notes: &mut [u64; NOTES], stream: u64, part: u64, sum: u64)
+    ensures { λ _. ⌜ now (notes .exit) ≡ waits (now (notes .entry)) (placeOf stream part) sum ⌝ }
 {
     let p = place_of(stream, part);
     let Place::At(at) = p else {
         return;
     };
-    notes[half_of(table) + at] = sum;
+    let from = WAITING + at * KEPT;
+    if has_sum(notes, from, sum) {
+        return;
+    }
+    add_sum(notes, from, sum);
 }
 
-// The sum of the block that was written in this table, which is one of the last two; 0 where none was.
-pub fn written(notes: &[u64; NOTES], table: u64, stream: u64, part: u64) -> u64
-    ensures { λ r. ⌜ r ≡ numberAt (now (notes .entry)) (halfOf table) (placeOf stream part) ⌝ }
-{
-    let p = place_of(stream, part);
-    let Place::At(at) = p else {
-        return 0;
-    };
-    notes[half_of(table) + at]
-}
-
-fn waiting_number(waits: bool) -> u64
-    ensures { λ r. ⌜ r ≡ waitingNumber waits ⌝ }
-{
-    if waits { 1 } else { 0 }
-}
-
-// Notes whether a block waits.
-pub fn note_waiting(notes: &mut [u64; NOTES], stream: u64, part: u64, waits: bool)
-    ensures { λ _. ⌜ now (notes .exit) ≡ putAt (now (notes .entry)) 16384 (placeOf stream part) (waitingNumber waits) ⌝ }
+// The block with this sum was done or refused.
+pub fn note_answered(notes: &mut [u64; NOTES], stream: u64, part: u64, sum: u64)
+    ensures { λ _. ⌜ now (notes .exit) ≡ answered (now (notes .entry)) (placeOf stream part) sum ⌝ }
 {
     let p = place_of(stream, part);
     let Place::At(at) = p else {
         return;
     };
-    let n = waiting_number(waits);
-    notes[WAITING + at] = n;
+    drop_sum(notes, WAITING + at * KEPT, sum);
 }
 
-// Does the block at this place wait?
+// No block of this part waits any more.
+pub fn note_over(notes: &mut [u64; NOTES], stream: u64, part: u64)
+    ensures { λ _. ⌜ now (notes .exit) ≡ noneWaits (now (notes .entry)) (placeOf stream part) ⌝ }
+{
+    let p = place_of(stream, part);
+    let Place::At(at) = p else {
+        return;
+    };
+    clear(notes, WAITING + at * KEPT, KEPT);
+}
+
+// Does a block of the part at this place wait?
 pub fn is_waiting(notes: &[u64; NOTES], at: usize) -> bool
     ensures { λ r. ⌜ r ≡ isWaiting (now (notes .entry)) at ⌝ }
 {
     if ALL_PARTS <= at {
         return false;
     }
-    0 < notes[WAITING + at]
-}
-
-// Nothing is noted of any part, from this place on.
-fn clear(notes: &mut [u64; NOTES], from: usize)
-    requires { ⌜ from ≤ 16384 ⌝ }
-    ensures { λ _. ⌜ now (notes .exit) ≡ cleared (now (notes .entry)) from 8192 ⌝ }
-{
-    let mut i: usize = 0;
-    while i < ALL_PARTS {
-        notes[from + i] = 0;
-        i += 1;
-    }
-}
-
-// A table of the encoder begins: nothing is written in it yet.
-pub fn begin_table(notes: &mut [u64; NOTES], table: u64)
-    ensures { λ _. ⌜ now (notes .exit) ≡ cleared (now (notes .entry)) (halfOf table) 8192 ⌝ }
-{
-    clear(notes, half_of(table));
+    any_sum(notes, WAITING + at * KEPT)
 }
 
 // No block waits any more.
 pub fn forget_waiting(notes: &mut [u64; NOTES])
-    ensures { λ _. ⌜ now (notes .exit) ≡ cleared (now (notes .entry)) 16384 8192 ⌝ }
+    ensures { λ _. ⌜ now (notes .exit) ≡ cleared (now (notes .entry)) 65536 32768 ⌝ }
 {
-    clear(notes, WAITING);
-}
-
-// Is a block with this sum as it was written for the decoder's table, where `kept` is the sum that is kept of it? It is where no encoder was
-// seen.
-pub fn as_written(decoder: u64, encoder: u64, kept: u64, sum: u64) -> bool
-    ensures { λ r. ⌜ r ≡ asWritten decoder encoder kept sum ⌝ }
-{
-    if encoder == 0 {
-        return true;
-    }
-    if encoder < decoder {
-        return false;
-    }
-    if 1 < encoder - decoder {
-        return false;
-    }
-    kept == sum
+    clear(notes, WAITING, SUMS);
 }

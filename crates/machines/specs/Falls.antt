@@ -1,4 +1,5 @@
--- Hours that fall (docs/RECORDINGS.md, "Hours"): "Hours fall where a later table, or a higher stream of the same table, has fewer hours."
+-- Hours that fall (docs/RECORDINGS.md, "Hours"): "Hours fall where a later table, a higher stream of the same table, or a later message of the
+-- same stream has fewer hours."
 use mathlib.Core.Bool.{Bool, true, false}
 use mathlib.Core.List.{List}
 use Prim.Native.Nat.{ℕ, zero, suc, _+_, _-_, _/_, _%_}
@@ -34,9 +35,9 @@ onBelow None above = onAbove above
 abbrev pub fallOf : ℕ → ℕ → Found → Found → Fall
 fallOf before tenths below above = pick (ltb tenths before) (BeforeStart before) (onBelow below above)
 
--- "the lowest stream below its own that has more hours"; "the lowest stream above the message's that has fewer hours"
+-- "the lowest stream up to its own that has more hours"; "the lowest stream above the message's that has fewer hours"
 unfoldable pub fallAt : List ℕ → ℕ → ℕ → ℕ → ℕ → Fall
 fallAt l machine before stream tenths =
     fallOf before tenths
-    (lowestFrom l (isApart machine tenths true) (stream - 0) 0)
+    (lowestFrom l (isApart machine tenths true) (stream + 1 - 0) 0)
     (lowestFrom l (isApart machine tenths false) (4096 - (stream + 1)) (stream + 1))

@@ -1,4 +1,4 @@
-// Hours that fall: a later table, or a higher stream of the same table, has fewer hours.
+// Hours that fall: a later table, a higher stream of the same table, or a later message of the same stream has fewer hours.
 ghost use mathlib.Core.Path.{_≡_};
 ghost use Prim.Native.Nat.{_-_, _≤_};
 ghost use Rattle.machines.specs.Falls.{isApart, lowestFrom, fallOf, fallAt};
@@ -17,7 +17,7 @@ pub enum Found {
     Nothing,
 }
 
-// What a report falls against: the most hours before the start, a lower stream with more, or a higher one with fewer.
+// What a report falls against: the most hours before the start, a lower stream or its own with more, or a higher one with fewer.
 pub enum Fall {
     Nothing,
     BeforeStart(u32),
@@ -83,7 +83,7 @@ pub fn fall_at(m: &[u64; RECORDS], machine: u64, before: u32, stream: usize, ten
     requires { ⌜ stream ≤ 4095 ⌝ }
     ensures { λ r. ⌜ r ≡ fallAt (now (m .entry)) machine before stream tenths ⌝ }
 {
-    let below = lowest(m, 0, stream, machine, tenths, true);
+    let below = lowest(m, 0, stream + 1, machine, tenths, true);
     let above = lowest(m, stream + 1, STREAMS, machine, tenths, false);
     first_fall(before, tenths, below, above)
 }

@@ -11,6 +11,7 @@ use crate::falls::WORD;
 use crate::falls::fall_at;
 use crate::name::Name;
 use crate::standing::Standing;
+use crate::standing::max;
 
 // How many machines are kept.
 pub const MACHINES: usize = 1_024;
@@ -100,12 +101,31 @@ fn find(m: &[u64; RECORDS], name: Name) -> Place
     Place::Full
 }
 
-// Keeps a report of the machine at this place, and answers what its hours fall against. No message is done on a stream above 4,095.
+// The most tenths of the machine on a stream with this number, after a report of so many.
+fn most_on(word: u64, machine: u64, tenths: u32) -> u32 {
+    if word / WORD != machine {
+        return tenths;
+    }
+    max((word % WORD) as u32, tenths)
+}
+
+// The first, if there is one.
+fn first_fall(first: Fall, second: Fall) -> Fall {
+    if let Fall::Nothing = first {
+        second
+    } else {
+        first
+    }
+}
+
+// Keeps a report of the machine at this place, and answers what its hours fall against, which may be the machine's latest. No message is done
+// on a stream above 4,095.
 fn report(
     m: &mut [u64; RECORDS],
     i: usize,
     s: Standing,
     before: u32,
+    latest: Fall,
     stream: u64,
     tenths: u32,
 ) -> Fall
@@ -118,8 +138,8 @@ fn report(
     let on = stream as usize;
     let machine = (i as u64) + 1;
     let fall = fall_at(m, machine, before, on, tenths);
-    m[on] = machine * WORD + (tenths as u64);
-    fall
+    m[on] = machine * WORD + (most_on(m[on], machine, tenths) as u64);
+    first_fall(fall, latest)
 }
 
 // Keeps a message whose hours are told, if its machine is kept, and compares it with the machine's others.
@@ -130,13 +150,14 @@ pub fn keep(m: &mut [u64; RECORDS], name: &[u8], table: u64, stream: u64, tenths
         Place::At(i) => {
             let s = standing_at(m, i);
             let before = s.most_before(table);
+            let latest = s.fall_from(table, stream, tenths);
             let next = s.with_report(table, stream, tenths);
-            Told::Compared(report(m, i, next, before, stream, tenths))
+            Told::Compared(report(m, i, next, before, latest, stream, tenths))
         }
         Place::Free(i) => {
             put_name(m, i, n);
             let s = Standing::first(table, stream, tenths);
-            Told::Compared(report(m, i, s, 0, stream, tenths))
+            Told::Compared(report(m, i, s, 0, Fall::Nothing, stream, tenths))
         }
         Place::Full => Told::NotKept,
     }

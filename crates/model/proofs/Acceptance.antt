@@ -1,7 +1,7 @@
 -- Document 01's rules as computed facts, its sentence over each. A definition that breaks a rule computes to something else here,
--- whatever shape the proofs of the laws have. AcceptanceCalls has the calls. (The laws are in crate model_laws, above this one: so what such
--- a definition meets first stands here, in seconds. A collect or an enquiry looks at all 4,096 streams, and each edit of a definition computes these
--- facts again: further facts of this kind are in model_laws.)
+-- whatever shape the proofs of the laws have. AcceptanceCalls has the calls, AcceptanceParts the facts on what a part takes and what finishes it.
+-- (The laws are in crate model_laws, above this one: so what such a definition meets first stands here, in seconds. A collect or an enquiry looks at all
+-- 4,096 streams, and each edit of a definition computes these facts again: further facts of this kind are in model_laws.)
 use mathlib.Core.Path.{_≡_, refl}
 use mathlib.Core.Bool.{true, false}
 use mathlib.Core.Option.{none, some}
@@ -35,10 +35,8 @@ use Rattle.model.proofs.AcceptanceCalls.{
   deleteWith,
   delete-nontrailer,
   delete-trailer,
-  past,
-  past-trailer,
-  ended,
-  refers-62,
+  trailer-block,
+  over,
   put-h9,
   delete-62,
   acknowledged-62,
@@ -47,28 +45,6 @@ use Rattle.model.proofs.AcceptanceCalls.{
   said-delete,
   wrote,
 }
-
--- ---- blocks at the decoder
-
--- "A waiting block is kept by the host and offered again." It waits for 62, changes nothing, and is done once 62 is there.
-pub waits-then-done :
-    decoderAnswers 68 (refers-62 ∷ insert-h9 62 ∷ refers-62 ∷ []) ≡ record { number = 1; first = 62; second = 0 } ∷ done 6 0 ∷ done 5 0 ∷ []
-unfolding decoderAnswers
-waits-then-done = refl
-
--- "A non-trailer block answered "done" finishes its part .. the same for the trailer." "Out of turn: a part already finished .."
-pub done-once :
-    decoderAnswers 68 (past-trailer 0 ∷ past 0 ∷ past 0 ∷ past-trailer 0 ∷ past-trailer 0 ∷ []) ≡
-    refusal 11 ∷ done 0 0 ∷ refusal 11 ∷ done 0 0 ∷ refusal 11 ∷ []
-unfolding decoderAnswers
-done-once = refl
-
--- "The host may say that a stream has ended or was reset: both parts are finished, and saying it again is fine."
-pub ended-both :
-    decoderAnswers 68 (past 0 ∷ ended 0 ∷ past-trailer 0 ∷ ended 0 ∷ ended 1 ∷ past 1 ∷ []) ≡
-    done 0 0 ∷ done 0 0 ∷ refusal 11 ∷ done 0 0 ∷ done 0 0 ∷ refusal 11 ∷ []
-unfolding decoderAnswers
-ended-both = refl
 
 -- ---- a block carries its fields
 
@@ -105,15 +81,15 @@ stored-whole = refl
 -- 10: "After 4, with streams 0 to 4 past their non-trailer part, the entry is ready as soon as 3E 05 00 00 00 is read." So the list
 -- names the streams below its horizon, 5, and not the horizon itself. With stream 4 unfinished it is not ready.
 pub ready-below-horizon :
-    (freed 68 (insert-h9 62 ∷ past 0 ∷ past 1 ∷ past 2 ∷ past 3 ∷ past 4 ∷ delete-nontrailer 5 ∷ collect 16 ∷ []) ≡ 62 ∷ []) ×
-    (freed 68 (insert-h9 62 ∷ past 0 ∷ past 1 ∷ past 2 ∷ past 3 ∷ delete-nontrailer 5 ∷ collect 16 ∷ []) ≡ [])
+    (freed 68 (insert-h9 62 ∷ over 0 ∷ over 1 ∷ over 2 ∷ over 3 ∷ over 4 ∷ delete-nontrailer 5 ∷ collect 16 ∷ []) ≡ 62 ∷ []) ×
+    (freed 68 (insert-h9 62 ∷ over 0 ∷ over 1 ∷ over 2 ∷ over 3 ∷ delete-nontrailer 5 ∷ collect 16 ∷ []) ≡ [])
 unfolding freed
 ready-below-horizon = (refl, refl)
 
 -- "It is ready when every part its two lists name is finished": the second list's are trailer parts.
 pub ready-trailer :
-    (freed 68 (insert-h9 62 ∷ delete-trailer 1 ∷ past 0 ∷ collect 16 ∷ []) ≡ []) ×
-    (freed 68 (insert-h9 62 ∷ delete-trailer 1 ∷ past 0 ∷ past-trailer 0 ∷ collect 16 ∷ []) ≡ 62 ∷ [])
+    (freed 68 (insert-h9 62 ∷ delete-trailer 1 ∷ over 0 ∷ collect 16 ∷ []) ≡ []) ×
+    (freed 68 (insert-h9 62 ∷ delete-trailer 1 ∷ trailer-block 0 ∷ collect 16 ∷ []) ≡ 62 ∷ [])
 unfolding freed
 ready-trailer = (refl, refl)
 
@@ -133,7 +109,7 @@ abbrev list-3-4-7 : StreamList
 list-3-4-7 = record { horizon = 3; streams = 4 ∷ 7 ∷ [] }
 
 pub listed-named :
-    decoderAnswers 68 (insert-h9 62 ∷ deleteWith list-3-4-7 (emptyList 0) ∷ hold 62 ∷ past 0 ∷ past 1 ∷ past 2 ∷ hold 62 ∷ past 3 ∷ past 4 ∷ hold 62 ∷ []) ≡
+    decoderAnswers 68 (insert-h9 62 ∷ deleteWith list-3-4-7 (emptyList 0) ∷ hold 62 ∷ over 0 ∷ over 1 ∷ over 2 ∷ hold 62 ∷ over 3 ∷ over 4 ∷ hold 62 ∷ []) ≡
     done 6 0 ∷ done 5 0 ∷ done 5 0 ∷ done 0 0 ∷ done 0 0 ∷ done 0 0 ∷ done 2 4 ∷ done 0 0 ∷ done 0 0 ∷ done 1 7 ∷ []
 unfolding decoderAnswers
 listed-named = refl

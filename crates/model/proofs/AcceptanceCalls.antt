@@ -113,21 +113,25 @@ delete-nontrailer n = deleteWith (emptyList n) (emptyList 0)
 abbrev pub delete-trailer : ℕ → DecoderCall
 delete-trailer n = deleteWith (emptyList 0) (emptyList n)
 
--- "An empty block is a block with no fields": a stream gets past its non-trailer part, and past its trailer part
-abbrev pub past : ℕ → DecoderCall
-past s = block s 0 [] 16
+-- "An empty block is a block with no fields": one of each part
+abbrev pub interim : ℕ → DecoderCall
+interim s = block s 0 [] 16
 
-abbrev pub past-trailer : ℕ → DecoderCall
-past-trailer s = block s 1 [] 16
+abbrev pub trailer-block : ℕ → DecoderCall
+trailer-block s = block s 1 [] 16
+
+-- the stream is past its non-trailer part, and past both
+abbrev pub over : ℕ → DecoderCall
+over s = close parts.over s
 
 abbrev pub ended : ℕ → DecoderCall
 ended s = close parts.ended s
 
--- a block that refers to 62, whose field takes five bytes
-abbrev pub refers-62 : DecoderCall
-refers-62 = block 0 0 (indexed 62 ∷ []) 16
+-- a block that refers to 62, whose field takes five bytes: of this part, with this room
+abbrev pub refers-62 : ℕ → ℕ → DecoderCall
+refers-62 part room = block 0 part (indexed 62 ∷ []) room
 
--- the encoder's insert of h = 9, delete of 62, acknowledgement of 62, and blocks of one field h
+-- the encoder's insert of h = 9, delete of 62, acknowledgement of 62, blocks of one field h, and empty blocks
 abbrev pub put-h9 : EncoderCall
 put-h9 = at-encoder.insert (bytes "h") (bytes "9") 16
 
@@ -139,6 +143,9 @@ acknowledged-62 = at-encoder.acknowledged 62 1
 
 abbrev pub says-h : ℕ → ℕ → List ℕ → EncoderCall
 says-h s part value = at-encoder.block s part (field (bytes "h") value ∷ []) 16
+
+abbrev pub says-none : ℕ → ℕ → EncoderCall
+says-none s part = at-encoder.block s part [] 16
 
 -- what the encoder writes for them
 abbrev pub said-insert : Output

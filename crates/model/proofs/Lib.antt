@@ -2,5 +2,6 @@
 -- model_laws.
 pub mod Running
 pub mod AcceptanceCalls
+pub mod AcceptanceParts
 pub mod Acceptance
 pub mod Places

@@ -17,7 +17,7 @@ use Rattle.blocks.specs.Representation.{Representation}
 use Rattle.blocks.specs.Meaning.{Slot, vacant as empty, holds, withStatics, BlockMeaning, list, blockMeaning}
 use Rattle.blocks.specs.Meaning as meaning
 use Rattle.model.specs.Table.{size, Account, Ascending, Distinct, look, put, cut, lowest, total}
-use Rattle.model.specs.Parts.{Part, partOf, Marks, noMarks, mark, Closing, closed, inTurn, Delete, openBelow, lowestOpen, streams, isReady}
+use Rattle.model.specs.Parts.{Part, partOf, Marks, noMarks, blockMarks, Closing, closed, inTurn, Delete, openBelow, lowestOpen, streams, isReady}
 use Rattle.model.specs.Outcome.{nothing, instruction, fields, Outcome, refuse, finish}
 
 -- an entry of the table
@@ -106,12 +106,12 @@ readInstruction D (insert i name value) taken = insertNamed D i value taken (nam
 readInstruction D (delete i nontrailer trailer) taken = deleteEntry D (record { index = i; nontrailer = nontrailer; trailer = trailer }) taken
 readInstruction D (acknowledge i) taken = refuse D not-allowed
 
--- ---- a block: "11, .. 1, 12". "A non-trailer block answered "done" finishes its part .. the same for the trailer."
+-- ---- a block: "11, .. 1, 12". "From now on a non-trailer block does not finish its part"; a trailer block that is done finishes both.
 unfoldable pub giveFields : Decoder → ℕ → Part → ℕ → BlockMeaning → Outcome Decoder
 giveFields D s p room (meaning.BlockMeaning.waits i) = record { state = D; answer = record { number = waits; first = i; second = 0 }; output = nothing }
 giveFields D s p room (list fs) =
     need (leb (length (listForm fs)) room) (refuse D no-room)
-    (finish (withFinished D (mark s p (D .finished))) (length (listForm fs)) 0 (fields fs))
+    (finish (withFinished D (blockMarks p s (D .finished))) (length (listForm fs)) 0 (fields fs))
 
 unfoldable pub decodePart : Decoder → ℕ → Option Part → List Representation → ℕ → Outcome Decoder
 decodePart D s none rs room = refuse D out-of-turn
@@ -123,7 +123,8 @@ decodePart D s (some p) rs room =
 unfoldable pub decodeBlock : Decoder → ℕ → ℕ → List Representation → ℕ → Outcome Decoder
 decodeBlock D s part rs room = decodePart D s (partOf part) rs room
 
--- ---- parts closed: "The host may say that a stream has ended or was reset: both parts are finished, and saying it again is fine."
+-- ---- parts closed: "The host says "non-trailer part over"", which finishes that part, or that "a stream has ended or was reset: both parts are finished";
+-- saying it again is fine. ""Over" gives 11 above stream 4,095, else it is done, said again too."
 unfoldable pub closeParts : Decoder → Closing → ℕ → Outcome Decoder
 closeParts D k s = need (ltb s streams) (refuse D out-of-turn) (finish (withFinished D (closed k s (D .finished))) 0 0 nothing)
 

@@ -21,7 +21,7 @@ use Rattle.instructions.specs.Instruction.{Instruction, insert, delete, instruc
 use Rattle.blocks.specs.Representation.{Representation, indexed, literal, blockWire}
 use Rattle.blocks.specs.Meaning.{blockReferences}
 use Rattle.model.specs.Table.{size, Account, Ascending, look, put, cut, lowest, vacantFrom, total}
-use Rattle.model.specs.Parts.{Part, nontrailer, trailer, partOf, Marks, noMarks, mark, inTurn, streams}
+use Rattle.model.specs.Parts.{Part, nontrailer, trailer, partOf, Marks, noMarks, blockMarks, inTurn, streams}
 use Rattle.model.specs.Outcome.{nothing, instruction, block, Outcome, refuse, finish}
 
 -- an entry: for each kind of block the horizon that its delete would be written with, and whether it is under deletion
@@ -45,7 +45,7 @@ asDeleted e = record { index = e .index; entry = e .entry; nontrailer = e .nontr
 abbrev pub sentIndex : Sent → ℕ
 sentIndex e = e .index
 
--- the limit; the entries held, ascending by index; the parts whose block is written
+-- the limit; the entries held, ascending by index; the parts that are closed
 pub record Encoder : Type 0 where
   pub limit : ℕ
   pub entries : List Sent
@@ -160,7 +160,7 @@ unfoldable pub writePart : Encoder → ℕ → Part → List Representation → 
 writePart E s p rs room =
     need (leb (length (blockWire rs)) 16384) (refuse E too-long)
     (need (leb (length (blockWire rs)) room) (refuse E no-room)
-    (finish (withWritten (withSent E (map (refer s p rs) (E .entries))) (mark s p (E .written)))
+    (finish (withWritten (withSent E (map (refer s p rs) (E .entries))) (blockMarks p s (E .written)))
     (length (blockWire rs)) 0 (block rs)))
 
 unfoldable pub encodePart : Encoder → ℕ → Option Part → List Field → ℕ → Outcome Encoder

@@ -24,7 +24,7 @@ samePart nontrailer trailer = false
 samePart trailer nontrailer = false
 samePart trailer trailer = true
 
--- a mark for each part of each stream: at the decoder that it is finished, at the encoder that it is written
+-- a mark for each part of each stream: at the decoder that it is finished, at the encoder that it is closed, so that no block of it is written any more
 abbrev pub Marks : Type 0
 Marks = ℕ → Part → Bool
 
@@ -39,17 +39,24 @@ mark s p marks t q = pick (eqb s t) (samePart p q || marks t q) (marks t q)
 unfoldable pub markBoth : ℕ → Marks → Marks
 markBoth s marks t q = pick (eqb s t) true (marks t q)
 
--- how the host closes parts of a stream without a block
+-- how the host closes parts of a stream without a block: it says "non-trailer part over", or the stream ends
 pub data Closing : Type 0 where
-  ended : Closing
+  over ended : Closing
 
 abbrev pub closed : Closing → ℕ → Marks → Marks
+closed over s marks = mark s nontrailer marks
 closed ended s marks = markBoth s marks
 
--- "Out of turn: a part already finished (or, at the encoder, already written), or a trailer before its non-trailer."
+-- what a block answered "done" marks: "a non-trailer block does not finish its part"; "a trailer block is answered "done", which finishes both", and at the
+-- encoder it closes both
+unfoldable pub blockMarks : Part → ℕ → Marks → Marks
+blockMarks nontrailer s marks = marks
+blockMarks trailer s marks = markBoth s marks
+
+-- out of turn is a part that is finished, or closed: "A further non-trailer block on an unfinished part is in turn, at both ends; a trailer may come while
+-- the non-trailer part is open, even with no block before it"
 unfoldable pub inTurn : Marks → ℕ → Part → Bool
-inTurn marks s nontrailer = not (marks s nontrailer)
-inTurn marks s trailer = marks s nontrailer && not (marks s trailer)
+inTurn marks s p = not (marks s p)
 
 -- a delete that was read, with its two lists
 pub record Delete : Type 0 where

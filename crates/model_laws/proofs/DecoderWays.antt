@@ -20,7 +20,7 @@ use Rattle.blocks.specs.Representation.{Representation}
 use Rattle.blocks.specs.Meaning.{BlockMeaning, list, blockMeaning}
 use Rattle.blocks.specs.Meaning as meaning
 use Rattle.model.specs.Table.{size, look, put}
-use Rattle.model.specs.Parts.{Part, partOf, mark, Closing, closed, inTurn, Delete, openBelow, lowestOpen, streams}
+use Rattle.model.specs.Parts.{Part, partOf, blockMarks, Closing, closed, inTurn, Delete, openBelow, lowestOpen, streams}
 use Rattle.model.specs.Outcome.{nothing, instruction, fields, Outcome, finish}
 use Rattle.model.specs.Decoder.{Held, heldIndex, Decoder, heldSize, lookup, deleteOf, withEntries, nameBytes, isSome, insertNamed, deleteEntry}
 use Rattle.model.specs.Decoder.{readInstruction, withFinished, giveFields, decodePart, decodeBlock, closeParts, nextFreed, without, freeEntry}
@@ -76,7 +76,7 @@ module _ {κ} (R : Outcome Decoder → Type κ) (D : Decoder)
 
   pub block-ways : (s part : ℕ) (rs : List Representation) (room : ℕ)
       → ((p : Part) (fs : List Field) → partOf part ≡ some p → s < streams → inTurn (D .finished) s p ≡ true → blockMeaning (lookup D) rs ≡ list fs
-      → length (listForm fs) ≤ room → R (finish (withFinished D (mark s p (D .finished))) (length (listForm fs)) 0 (fields fs)))
+      → length (listForm fs) ≤ room → R (finish (withFinished D (blockMarks p s (D .finished))) (length (listForm fs)) 0 (fields fs)))
       → R (decodeBlock D s part rs room)
   unfolding decodeBlock decodePart giveFields
   block-ways s part rs room decoded = go (partOf part) refl

@@ -16,7 +16,7 @@ use Rattle.fields.specs.Form.{Field}
 use Rattle.instructions.specs.Instruction.{Instruction, insert, instructionWire}
 use Rattle.blocks.specs.Representation.{Representation, blockWire}
 use Rattle.model.specs.Table.{size, look, put, cut, vacantFrom}
-use Rattle.model.specs.Parts.{Part, partOf, mark, inTurn, streams}
+use Rattle.model.specs.Parts.{Part, partOf, blockMarks, inTurn, streams}
 use Rattle.model.specs.Outcome.{nothing, instruction, block, Outcome, finish}
 use Rattle.model.specs.Encoder.{Sent, sentIndex, Encoder, sentSize, withSent, withWritten, chooseName, choose, newSent, insertAt, insertEntry}
 use Rattle.model.specs.Encoder.{markDeleted, deleteOfSent, deleteFound, deleteSent, refer, writePart, encodePart, encodeBlock, acknowledgeFound, readAck}
@@ -26,7 +26,7 @@ abbrev pub insertOf : Encoder → ℕ → List ℕ → List ℕ → Instruction
 insertOf E i name value = insert i (chooseName (E .entries) name) value
 
 abbrev pub afterBlock : Encoder → ℕ → Part → List Representation → Encoder
-afterBlock E s p rs = withWritten (withSent E (map (refer s p rs) (E .entries))) (mark s p (E .written))
+afterBlock E s p rs = withWritten (withSent E (map (refer s p rs) (E .entries))) (blockMarks p s (E .written))
 
 module _ {κ} (R : Outcome Encoder → Type κ) (E : Encoder)
     (refused : (a : Answer) → eqb (a .number) 0 ≡ false → R (record { state = E; answer = a; output = nothing })) where

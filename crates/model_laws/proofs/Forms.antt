@@ -14,7 +14,7 @@ use Rattle.statics.proofs.Places.{name-most}
 use Rattle.instructions.specs.Instruction.{Instruction, insert, delete, acknowledge, FineInstruction}
 use Rattle.blocks.specs.Meaning.{Slot, holds, isStatic, withStatics}
 use Rattle.model.specs.Table.{look, total}
-use Rattle.model.specs.Parts.{mark, closed}
+use Rattle.model.specs.Parts.{blockMarks, closed}
 use Rattle.model.specs.Outcome.{Outcome}
 use Rattle.model.specs.Decoder.{Held, heldIndex, Decoder, heldSize, slotIn, lookup, deleteOf, startDecoder, slotName, nameBytes, isSome}
 use Rattle.model.specs.Decoder.{readInstruction, ready, nextFreed, FineHeld, FormsDecoder}
@@ -78,7 +78,7 @@ pub forms-call : (D : Decoder) (c : DecoderCall) → FormsDecoder D → FineCall
 unfolding decoderCall
 forms-call D (read i taken) F f = forms-read D i taken F (f .1)
 forms-call D (block s part rs room) F f =
-    block-ways Keeps D (λ a z. F) s part rs room (λ p fs e below turn m fits. forms-finished D F (mark s p (D .finished)))
+    block-ways Keeps D (λ a z. F) s part rs room (λ p fs e below turn m fits. forms-finished D F (blockMarks p s (D .finished)))
 forms-call D (close k s) F f = close-ways Keeps D (λ a z. F) k s (λ below. forms-finished D F (closed k s (D .finished)))
 forms-call D (collect room) F f = collect-ways Keeps D (λ a z. F) room (λ e. F) (λ h e fits. forms-free D F h (freed-held D F h e .0))
 forms-call D (hold i) F f = hold-ways Keeps D (λ a z. F) i (λ d e. F)

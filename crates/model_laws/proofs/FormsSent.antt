@@ -6,7 +6,7 @@ use native.Mathlib.Omega.{arith}
 use mathlib.Core.List.{List, [], _∷_}
 use lib.ListN.{length}
 use Rattle.model.specs.Table.{size, look, vacantFrom, total}
-use Rattle.model.specs.Parts.{mark}
+use Rattle.model.specs.Parts.{blockMarks}
 use Rattle.model.specs.Outcome.{Outcome}
 use Rattle.model.specs.Encoder.{sentIndex, Encoder, sentSize, startEncoder, newSent, markDeleted, refer, FineSent, FormsEncoder}
 use Rattle.model.specs.EncoderCalls.{EncoderCall, insert, delete, block, acknowledged, unread, encoderCall, afterEncoder}
@@ -47,7 +47,7 @@ sent-call E (delete i room) F =
 sent-call E (block s part fs room) F =
     block-ways Keeps E (λ a z. F) s part fs room
     (λ p rs chosen e below turn short fits.
-    sent-map E F (refer s p rs) (refer-index s p rs) (refer-entry s p rs) (refer-fine s p rs below) (mark s p (E .written)))
+    sent-map E F (refer s p rs) (refer-index s p rs) (refer-entry s p rs) (refer-fine s p rs below) (blockMarks p s (E .written)))
 sent-call E (acknowledged i taken) F =
     acknowledged-ways Keeps E (λ a z. F) i taken
     (λ e there gone. sent-free E F e (ap (λ (j : ℕ). look sentIndex j (E .entries)) (look-index sentIndex i (E .entries) e there) ∙ there))

@@ -5,7 +5,7 @@ use Rattle.integers.specs.Answers.{done}
 use Rattle.instructions.specs.Instruction.{delete}
 use Rattle.model.specs.DecoderCalls.{read, collect, hold}
 use Rattle.model.specs.Encoder.{emptyList}
-use Rattle.model.proofs.AcceptanceCalls.{decoderAnswers, freed, insert-h9, delete-nontrailer, past, refers-62}
+use Rattle.model.proofs.AcceptanceCalls.{decoderAnswers, freed, insert-h9, delete-nontrailer, over, refers-62}
 
 -- "A collect call frees the ready entry of lowest index and writes its Delete-Ack": each time, also where an index is used again.
 pub freed-again :
@@ -21,14 +21,14 @@ freed-lowest = refl
 
 -- "with none ready it is done, writes 0 bytes and changes nothing": no entry under deletion, one that is not ready, and it still serves
 pub none-freed :
-    decoderAnswers 68 (insert-h9 62 ∷ collect 16 ∷ delete-nontrailer 1 ∷ collect 16 ∷ refers-62 ∷ collect 16 ∷ []) ≡
-    done 6 0 ∷ done 0 0 ∷ done 5 0 ∷ done 0 0 ∷ done 5 0 ∷ done 1 0 ∷ []
+    decoderAnswers 68 (insert-h9 62 ∷ collect 16 ∷ delete-nontrailer 1 ∷ collect 16 ∷ refers-62 0 16 ∷ over 0 ∷ collect 16 ∷ []) ≡
+    done 6 0 ∷ done 0 0 ∷ done 5 0 ∷ done 0 0 ∷ done 5 0 ∷ done 0 0 ∷ done 1 0 ∷ []
 unfolding decoderAnswers
 none-freed = refl
 
 -- "A hold enquiry about an entry under deletion tells how many named parts are unfinished and the lowest stream having one (4,096 if none)."
 pub hold-told :
-    decoderAnswers 68 (insert-h9 62 ∷ delete-nontrailer 5 ∷ hold 62 ∷ past 0 ∷ past 1 ∷ hold 62 ∷ past 2 ∷ past 3 ∷ past 4 ∷ hold 62 ∷ []) ≡
+    decoderAnswers 68 (insert-h9 62 ∷ delete-nontrailer 5 ∷ hold 62 ∷ over 0 ∷ over 1 ∷ hold 62 ∷ over 2 ∷ over 3 ∷ over 4 ∷ hold 62 ∷ []) ≡
     done 6 0 ∷ done 5 0 ∷ done 5 0 ∷ done 0 0 ∷ done 0 0 ∷ done 3 2 ∷ done 0 0 ∷ done 0 0 ∷ done 0 0 ∷ done 0 4096 ∷ []
 unfolding decoderAnswers
 hold-told = refl

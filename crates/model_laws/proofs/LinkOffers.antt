@@ -8,12 +8,11 @@ use mathlib.Core.Bool.{false}
 use mathlib.Core.Option.{some}
 use mathlib.Core.List.{List, [], _∷_, _++_}
 use lib.ListN.{length}
-use borrow.Author.Tests.{eqb-false}
 use Rattle.fields.specs.Form.{listForm}
 use Rattle.blocks.specs.Representation.{Representation}
 use Rattle.blocks.specs.Meaning.{Refers}
 use Rattle.model.specs.Table.{look}
-use Rattle.model.specs.Parts.{Part, partNumber, mark, streams}
+use Rattle.model.specs.Parts.{Part, partNumber, blockMarks, streams}
 use Rattle.model.specs.Outcome.{fields, Outcome}
 use Rattle.model.specs.Decoder.{Decoder, heldIndex, isSome, withFinished, decodeBlock}
 use Rattle.model.specs.Encoder.{Encoder}
@@ -21,8 +20,8 @@ use Rattle.model.specs.Events.{at, Event, offered}
 use Rattle.model_laws.specs.Link.{saidIn, heardIn, Written, writtenIn, heldAfter, AbstractRules, AbstractServedBlock}
 use Rattle.model_laws.proofs.DecoderWays as decoder
 use Rattle.model_laws.proofs.LinkHistory.{accept-history}
-use Rattle.model_laws.proofs.Marks.{part-number, number-same, part-back, mark-keeps}
-use Rattle.model_laws.proofs.LinkRules.{unfinished, turned}
+use Rattle.model_laws.proofs.Marks.{part-number, number-same, part-back, block-keeps}
+use Rattle.model_laws.proofs.LinkRules.{unfinished}
 use Rattle.model_laws.proofs.LinkState.{linkOf, Meant, management-above}
 use Rattle.model_laws.proofs.LinkWrites.{Tied, now, still-tied, quiet-tied}
 use Rattle.model_laws.proofs.View.{tablesOf, slotsOf}
@@ -37,15 +36,15 @@ use Rattle.model_laws.proofs.Slots.Serving as serving
 
 -- what a block does to the decoder
 pub data Decoded (D : Decoder) (s : ℕ) (p : Part) (o : Outcome Decoder) : Type 0 where
-  accepted : o .answer .number ≡ 0 → o .state ≡ withFinished D (mark s p (D .finished)) → Decoded D s p o
-  left : (o .answer .number ≡ 0 → ⊥) → o .state ≡ D → Decoded D s p o
+  accepted : o .answer .number ≡ 0 → o .state ≡ withFinished D (blockMarks p s (D .finished)) → Decoded D s p o
+  left : o .state ≡ D → Decoded D s p o
 
 pub decoded : (D : Decoder) (s : ℕ) (p : Part) (rs : List Representation) (room : ℕ) → Decoded D s p (decodeBlock D s (partNumber p) rs room)
 decoded D s p rs room =
-    decoder.block-ways (Decoded D s p) D (λ a e. left (eqb-false (a .number) 0 e) refl) s (partNumber p) rs room
+    decoder.block-ways (Decoded D s p) D (λ a e. left refl) s (partNumber p) rs room
     (λ q fs e f g h k.
     let z : p ≡ q = number-same p q (part-number (partNumber p) q e) in
-    accepted refl (ap (λ (t : Part). withFinished D (mark s t (D .finished))) (sym z)))
+    accepted refl (ap (λ (t : Part). withFinished D (blockMarks t s (D .finished))) (sym z)))
 
 module _ (es : List Event) (R : AbstractRules es) (xs ys : List Event) (E : Encoder) (D : Decoder) (T : Tied xs E D)
     (vacancies : (i : ℕ) → heldAfter xs i ≡ isSome (look heldIndex i (D .entries))) (n : ℕ) (w : Written) (found : at n (writtenIn xs) ≡ some w)
@@ -64,9 +63,7 @@ module _ (es : List Event) (R : AbstractRules es) (xs ys : List Event) (E : Enco
 
     conclusions : serving.Conclusions (now xs E D T) b
     unfolding linkOf tablesOf
-    conclusions =
-        block-conclusions (now xs E D T) (T .invariant) b (M .there) open-part
-        (turned es R xs ys n (b .place .stream) (w .says) room (o .answer) (o .output) (D .finished) (E .written) (T .history) (b .place .part) e open-part)
+    conclusions = block-conclusions (now xs E D T) (T .invariant) b (M .there) open-part
 
     low : b .place .stream < streams
     low = rw (M .stream) (T .history .marked n w found .low)
@@ -137,12 +134,12 @@ module _ (es : List Event) (R : AbstractRules es) (xs ys : List Event) (E : Enco
       go (accepted z s) =
           subst (λ (D′ : Decoder). Tied (xs
           ++ (offered n (b .place .stream) (partNumber (b .place .part)) (w .says) room (o .answer) (o .output) ∷ [])) E D′) (sym s)
-          (still-tied xs E D T _ tt (withFinished D (mark (b .place .stream) (b .place .part) (D .finished)))
-          (accept-history xs n (b .place .stream) (b .place .part) (partNumber (b .place .part)) (w .says) room (o .answer) (o .output)
+          (still-tied xs E D T _ tt (withFinished D (blockMarks (b .place .part) (b .place .stream) (D .finished)))
+          (accept-history xs n (b .place .stream) (b .place .part) (w .says) room (o .answer) (o .output)
           (D .finished) (E .written) w found (sym (M .stream)) (sym (M .part)) z (T .history))
-          (marks-invariant (now xs E D T) (mark (b .place .stream) (b .place .part) (D .finished))
-          (λ q h. mark-keeps (b .place .stream) (b .place .part) (D .finished) (q .stream) (q .part) h) (T .invariant)))
-      go (left z s) =
+          (marks-invariant (now xs E D T) (blockMarks (b .place .part) (b .place .stream) (D .finished))
+          (λ q h. block-keeps (b .place .part) (b .place .stream) (D .finished) (q .stream) (q .part) h) (T .invariant)))
+      go (left s) =
           subst (λ (D′ : Decoder). Tied (xs
           ++ (offered n (b .place .stream) (partNumber (b .place .part)) (w .says) room (o .answer) (o .output) ∷ [])) E D′) (sym s)
-          (quiet-tied xs E D T _ tt z)
+          (quiet-tied xs E D T _ tt tt)

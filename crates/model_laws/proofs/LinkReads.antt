@@ -1,4 +1,4 @@
--- The decoder's calls but blocks keep the invariant of the link: the next unread instruction is taken, a stream told as ended only adds marks,
+-- The decoder's calls but blocks keep the invariant of the link: the next unread instruction is taken, parts that are closed only add marks,
 -- and a collect frees a slot that is ready.
 use mathlib.Core.Path.{_≡_, sym, ap, _∙_, subst}
 use Prim.Native.Nat.{ℕ, suc}

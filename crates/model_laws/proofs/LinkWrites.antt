@@ -3,7 +3,7 @@
 use mathlib.Core.Path.{_≡_, refl, sym, ap, _∙_, subst}
 use Prim.Native.Nat.{ℕ, suc, _<_}
 use native.Mathlib.Omega.{arith}
-use mathlib.Core.Bool.{Bool, true, false, not, _&&_}
+use mathlib.Core.Bool.{true}
 use mathlib.Core.Option.{some}
 use mathlib.Core.List.{List, [], _∷_, _++_, map, append-nil}
 use lib.ListN.{length, length-append}
@@ -11,7 +11,7 @@ use Rattle.fields.specs.Form.{Field, AllFine}
 use Rattle.instructions.specs.Instruction.{Instruction, Manages, FineInstruction}
 use Rattle.blocks.specs.Representation.{Representation}
 use Rattle.model.specs.Table.{cut}
-use Rattle.model.specs.Parts.{Part, nontrailer, trailer, partOf, Marks, inTurn, streams}
+use Rattle.model.specs.Parts.{Part, partOf, inTurn, streams}
 use Rattle.model.specs.Outcome.{Outcome, nothing, finish}
 use Rattle.model.specs.Decoder.{Decoder}
 use Rattle.model.specs.Encoder.{Encoder, sentIndex, withSent, choose, readAck, FormsEncoder}
@@ -19,11 +19,10 @@ use Rattle.model.specs.Encoder as encoder
 use Rattle.model.specs.Events.{at, Event, said, wrote, acknowledged, heard, offered, freed, told, quiet}
 use Rattle.model.specs.Events as link
 use Rattle.model_laws.specs.Link.{saidIn, heardIn, freedIn, acknowledgedIn, Written, writtenFrom, writtenIn}
-use Rattle.model_laws.proofs.Tables.{nope}
 use Rattle.model_laws.proofs.EncoderWays.{afterBlock}
 use Rattle.model_laws.proofs.Linking.{said-append, heard-append, freed-append, acknowledged-append, written-append}
 use Rattle.model_laws.proofs.LinkHistory.{History, Calm, quiet-history, wrote-history}
-use Rattle.model_laws.proofs.Marks.{part-number}
+use Rattle.model_laws.proofs.Marks.{part-number, turn-open}
 use Rattle.model_laws.proofs.LinkState.{linkOf, Management, management-said, Acknowledgements, acknowledgements-next, AllMeant, meant-wrote}
 use Rattle.model_laws.proofs.View.{slotInstruction}
 use Rattle.model_laws.proofs.EncoderItems.{meantItems, meant-nontrailer, meant-fields}
@@ -83,20 +82,6 @@ still-same xs (freed i) s = absurd s
 still-same xs (told k t) s = same-by xs (told k t) refl refl refl refl refl
 still-same xs (link.Event.reset t) s = same-by xs (link.Event.reset t) refl refl refl refl refl
 still-same xs quiet s = same-by xs quiet refl refl refl refl refl
-
-open-first : (a : Bool) → not a ≡ true → a ≡ false
-open-first true h = nope (cc)
-open-first false h = refl
-
-open-second : (a b : Bool) → (a && not b) ≡ true → b ≡ false
-open-second true b h = open-first b h
-open-second false b h = nope (cc)
-
--- a part in turn has no mark
-pub turn-open : (f : Marks) (s : ℕ) (p : Part) → inTurn f s p ≡ true → f s p ≡ false
-unfolding inTurn
-turn-open f s nontrailer h = open-first (f s nontrailer) h
-turn-open f s trailer h = open-second (f s nontrailer) (f s trailer) h
 
 module _ (xs : List Event) (E : Encoder) (D : Decoder) (T : Tied xs E D) where
   -- the link of slots now

@@ -6,13 +6,9 @@ use Prim.Native.Nat.{ℕ, zero, suc, _+_, _≤_, _<_}
 use native.Mathlib.Omega.{arith}
 use mathlib.Core.Bool.{Bool, false}
 use mathlib.Core.Option.{some}
-use mathlib.Core.List.{List, [], _∷_, _++_, append-assoc, List·Memᴰ, List·Memᴰ·head, List·Memᴰ·tail, Memᴰ·append-left, List·Memᴰ·append-cases}
-use mathlib.Core.List.{List·Memᴰ·eq-of-singleton}
+use mathlib.Core.List.{List, [], _∷_, _++_, append-assoc, List·Memᴰ, List·Memᴰ·head, List·Memᴰ·tail, Memᴰ·append-left}
 use lib.ListN.{length, drop, length-append}
-use Rattle.integers.specs.Answers.{Answer}
 use Rattle.instructions.specs.Instruction.{Instruction}
-use Rattle.blocks.specs.Representation.{Representation}
-use Rattle.model.specs.Outcome.{Output}
 use Rattle.model.specs.Events.{at, Event, said, wrote, acknowledged, heard, offered, freed, told, quiet}
 use Rattle.model.specs.Events as link
 use Rattle.model_laws.specs.Link.{saidIn, heardIn, freedIn, acknowledgedIn, Written, writtenFrom, writtenIn, heldFrom, heldAfter, Accepted}
@@ -185,36 +181,6 @@ accepted-more n xs ys d =
       done = d .done;
       when = Memᴰ·append-left ys (d .when);
     }
-
--- this event is the n-th block answered "done"
-pub record Accepts (n : ℕ) (e : Event) : Type 0 where
-  pub stream : ℕ
-  pub part : ℕ
-  pub says : List Representation
-  pub room : ℕ
-  pub answer : Answer
-  pub output : Output
-  pub done : answer .number ≡ 0
-  pub is : offered n stream part says room answer output ≡ e
-
-pub accepted-last : (n : ℕ) (xs : List Event) (e : Event) → Accepted n (xs ++ (e ∷ [])) → Accepted n xs ⊎ Accepts n e
-accepted-last n xs e d = go (List·Memᴰ·append-cases xs (d .when))
-  where
-    go : List·Memᴰ (offered n (d .stream) (d .part) (d .says) (d .room) (d .answer) (d .output)) xs
-        ⊎ List·Memᴰ (offered n (d .stream) (d .part) (d .says) (d .room) (d .answer) (d .output)) (e ∷ []) → Accepted n xs ⊎ Accepts n e
-    go (inl m) =
-        inl (record { stream = d .stream; part = d .part; says = d .says; room = d .room; answer = d .answer; output = d .output; done = d .done; when = m })
-    go (inr m) =
-        inr (record {
-          stream = d .stream;
-          part = d .part;
-          says = d .says;
-          room = d .room;
-          answer = d .answer;
-          output = d .output;
-          done = d .done;
-          is = List·Memᴰ·eq-of-singleton m;
-        })
 
 -- ---- an event's place
 pub record Place (x : Event) (xs : List Event) : Type 0 where

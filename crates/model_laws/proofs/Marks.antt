@@ -1,10 +1,10 @@
--- Laws of marks: a marked part stays marked and is out of turn; a delete is ready exactly where every part that it names is marked.
+-- Laws of marks: a marked part stays marked, and one in turn is one not marked; a delete is ready exactly where every part that it names is marked.
 -- By cases on the tests, and by induction over the count of streams.
-use mathlib.Core.Path.{_≡_, refl, sym, ap, _∙_}
+use mathlib.Core.Path.{_≡_, refl, sym, ap, _∙_, subst}
 use mathlib.Core.Logic.{_⊎_, inl, inr, ⊎-elim}
 use Prim.Native.Nat.{ℕ, zero, suc, _<_}
 use native.Mathlib.Omega.{arith}
-use mathlib.Core.Bool.{Bool, true, false, not, _&&_, _||_, or-true, and-false}
+use mathlib.Core.Bool.{Bool, true, false, not, _&&_, _||_, or-true}
 use mathlib.Core.Option.{some, Option, none}
 use mathlib.Core.List.{List, [], _∷_}
 use lib.Dec.{eqb, ltb}
@@ -13,8 +13,8 @@ use Rattle.memory.specs.Choice.{pick}
 use Rattle.memory.proofs.Order.{split, either, pick-both, pick-true, not-both}
 use Rattle.wire.specs.StreamList.{StreamList, Fits, listed, names}
 use Rattle.instructions.specs.Instruction.{FineList}
-use Rattle.model.specs.Parts.{Part, nontrailer, trailer, partOf, partNumber, samePart, Marks, mark, markBoth, inTurn, Delete, namesPart, isOpen, Closing, ended, closed}
-use Rattle.model.specs.Parts.{openBelow, streams, isReady}
+use Rattle.model.specs.Parts.{Part, nontrailer, trailer, partOf, partNumber, samePart, Marks, mark, markBoth, blockMarks, inTurn, Delete, namesPart, isOpen}
+use Rattle.model.specs.Parts.{Closing, over, ended, closed, openBelow, streams, isReady}
 use Rattle.model_laws.proofs.Tables.{nope, pick-eq}
 
 pub part-back : (p : Part) → partOf (partNumber p) ≡ some p
@@ -24,44 +24,63 @@ part-back trailer = refl
 
 -- ---- marks are never taken back
 
-pub mark-keeps : (s : ℕ) (p : Part) (marks : Marks) (t : ℕ) (q : Part) → marks t q ≡ true → mark s p marks t q ≡ true
+mark-keeps : (s : ℕ) (p : Part) (marks : Marks) (t : ℕ) (q : Part) → marks t q ≡ true → mark s p marks t q ≡ true
 unfolding mark
 mark-keeps s p marks t q h =
     pick-both (λ (b : Bool). b ≡ true) (eqb s t) (samePart p q || marks t q) (marks t q) (λ e. rw h (or-true (samePart p q))) (λ e. h)
 
-pub both-keeps : (s : ℕ) (marks : Marks) (t : ℕ) (q : Part) → marks t q ≡ true → markBoth s marks t q ≡ true
+both-keeps : (s : ℕ) (marks : Marks) (t : ℕ) (q : Part) → marks t q ≡ true → markBoth s marks t q ≡ true
 unfolding markBoth
 both-keeps s marks t q h = pick-both (λ (b : Bool). b ≡ true) (eqb s t) true (marks t q) (λ e. refl) (λ e. h)
 
 pub closed-keeps : (k : Closing) (s : ℕ) (marks : Marks) (t : ℕ) (q : Part) → marks t q ≡ true → closed k s marks t q ≡ true
+closed-keeps over s marks t q h = mark-keeps s nontrailer marks t q h
 closed-keeps ended s marks t q h = both-keeps s marks t q h
 
-pub mark-same : (s : ℕ) (p q : Part) (marks : Marks) → mark s p marks s q ≡ (samePart p q || marks s q)
-unfolding mark
-mark-same s p q marks = pick-true (eqb s s) (samePart p q || marks s q) (marks s q) (eq-eqb s s refl)
+pub block-keeps : (p : Part) (s : ℕ) (marks : Marks) (t : ℕ) (q : Part) → marks t q ≡ true → blockMarks p s marks t q ≡ true
+unfolding blockMarks
+block-keeps nontrailer s marks t q h = h
+block-keeps trailer s marks t q h = both-keeps s marks t q h
 
-pub both-marked : (s : ℕ) (marks : Marks) (q : Part) → markBoth s marks s q ≡ true
+-- ---- what is marked
+
+-- the parts that a closing marks
+abbrev pub Closes : Closing → Part → Type 0
+Closes over nontrailer = Unit {0}
+Closes over trailer = ⊥
+Closes ended q = Unit {0}
+
+mark-marked : (s : ℕ) (p : Part) (marks : Marks) → mark s p marks s p ≡ true
+unfolding mark
+mark-marked s nontrailer marks = pick-true (eqb s s) true (marks s nontrailer) (eq-eqb s s refl)
+mark-marked s trailer marks = pick-true (eqb s s) true (marks s trailer) (eq-eqb s s refl)
+
+both-marked : (s : ℕ) (marks : Marks) (q : Part) → markBoth s marks s q ≡ true
 unfolding markBoth
 both-marked s marks q = pick-true (eqb s s) true (marks s q) (eq-eqb s s refl)
 
-pub mark-marked : (s : ℕ) (p : Part) (marks : Marks) → mark s p marks s p ≡ true
-mark-marked s nontrailer marks = mark-same s nontrailer nontrailer marks
-mark-marked s trailer marks = mark-same s trailer trailer marks
+pub closing-marks : (k : Closing) (s : ℕ) (marks : Marks) (q : Part) → Closes k q → closed k s marks s q ≡ true
+closing-marks over s marks nontrailer c = mark-marked s nontrailer marks
+closing-marks over s marks trailer c = absurd c
+closing-marks ended s marks q c = both-marked s marks q
 
--- ---- what is in turn
+pub trailer-marks : (s : ℕ) (marks : Marks) (q : Part) → blockMarks trailer s marks s q ≡ true
+unfolding blockMarks
+trailer-marks s marks q = both-marked s marks q
+
+-- ---- a part in turn is one that is not marked
 
 pub marked-late : (marks : Marks) (s : ℕ) (p : Part) → marks s p ≡ true → inTurn marks s p ≡ false
 unfolding inTurn
-marked-late marks s nontrailer h = ap not h
-marked-late marks s trailer h = rw h (and-false (marks s nontrailer))
+marked-late marks s p h = ap not h
 
-pub nontrailer-turn : (marks : Marks) (s : ℕ) → marks s nontrailer ≡ false → inTurn marks s nontrailer ≡ true
+pub open-turn : (marks : Marks) (s : ℕ) (p : Part) → marks s p ≡ false → inTurn marks s p ≡ true
 unfolding inTurn
-nontrailer-turn marks s h = ap not h
+open-turn marks s p h = ap not h
 
-pub trailer-turn : (marks : Marks) (s : ℕ) → marks s nontrailer ≡ true → marks s trailer ≡ false → inTurn marks s trailer ≡ true
+pub turn-open : (marks : Marks) (s : ℕ) (p : Part) → inTurn marks s p ≡ true → marks s p ≡ false
 unfolding inTurn
-trailer-turn marks s h k = rw (h, k)
+turn-open marks s p h = not-true (marks s p) h
 
 -- ---- a fine list names streams below 4,096 alone
 
@@ -174,7 +193,7 @@ pub or-either : (a b : Bool) → (a || b) ≡ true → (a ≡ true) ⊎ (b ≡ t
 or-either true b h = inl refl
 or-either false b h = inr h
 
-pub mark-from : (s : ℕ) (p : Part) (f : Marks) (t : ℕ) (q : Part) → mark s p f t q ≡ true → (f t q ≡ true) ⊎ ((s ≡ t) × (p ≡ q))
+mark-from : (s : ℕ) (p : Part) (f : Marks) (t : ℕ) (q : Part) → mark s p f t q ≡ true → (f t q ≡ true) ⊎ ((s ≡ t) × (p ≡ q))
 unfolding mark
 mark-from s p f t q h =
     pick-eq (λ (b : Bool). b ≡ true → (f t q ≡ true) ⊎ ((s ≡ t) × (p ≡ q))) s t _ _ (λ e k. go e (or-either (samePart p q) (f t q) k)) (λ e k. inl k) h
@@ -183,6 +202,15 @@ mark-from s p f t q h =
     go e (inl k) = inr (e, same-part p q k)
     go e (inr k) = inl k
 
-pub both-from : (s : ℕ) (f : Marks) (t : ℕ) (q : Part) → markBoth s f t q ≡ true → (f t q ≡ true) ⊎ (s ≡ t)
+both-from : (s : ℕ) (f : Marks) (t : ℕ) (q : Part) → markBoth s f t q ≡ true → (f t q ≡ true) ⊎ (s ≡ t)
 unfolding markBoth
 both-from s f t q h = pick-eq (λ (b : Bool). b ≡ true → (f t q ≡ true) ⊎ (s ≡ t)) s t _ _ (λ e k. inr e) (λ e k. inl k) h
+
+pub closed-from : (k : Closing) (s : ℕ) (f : Marks) (t : ℕ) (q : Part) → closed k s f t q ≡ true → (f t q ≡ true) ⊎ ((s ≡ t) × Closes k q)
+closed-from over s f t q h = ⊎-elim inl (λ (e : (s ≡ t) × (nontrailer ≡ q)). inr (e .0, subst (Closes over) (e .1) tt)) (mark-from s nontrailer f t q h)
+closed-from ended s f t q h = ⊎-elim inl (λ e. inr (e, tt)) (both-from s f t q h)
+
+pub block-from : (p : Part) (s : ℕ) (f : Marks) (t : ℕ) (q : Part) → blockMarks p s f t q ≡ true → (f t q ≡ true) ⊎ ((s ≡ t) × (p ≡ trailer))
+unfolding blockMarks
+block-from nontrailer s f t q h = inl h
+block-from trailer s f t q h = ⊎-elim inl (λ e. inr (e, refl)) (both-from s f t q h)

@@ -15,7 +15,7 @@ use Rattle.instructions.specs.Instruction.{Instruction, insert, delete, acknowl
 use Rattle.blocks.specs.Representation.{Representation}
 use Rattle.blocks.specs.Meaning.{Refers}
 use Rattle.model.specs.Table.{look}
-use Rattle.model.specs.Parts.{ended}
+use Rattle.model.specs.Parts.{over, ended}
 use Rattle.model.specs.Outcome.{Output, fields, startAnswer}
 use Rattle.model.specs.Decoder.{heldIndex, isSome}
 use Rattle.model.specs.EncoderCalls as at-encoder
@@ -133,6 +133,10 @@ pub record Accepted (n : ℕ) (es : List Event) : Type 0 where
   pub when : List·Memᴰ (offered n stream part says room answer output) es
 
 -- ---- the rules. Each speaks of an event and of those before it, xs; "ever" is anywhere in the whole list, es.
+-- all non-trailer blocks ever written on the stream s were answered "done" in xs
+abbrev pub NontrailersDone : List Event → ℕ → List Event → Type 0
+NontrailersDone es s xs = (n : ℕ) (w : Written) → at n (writtenIn es) ≡ some w → w .stream ≡ s → w .part ≡ 0 → Accepted n xs
+
 pub record AbstractRules (es : List Event) : Type 0 where
   -- "management and acknowledgement bytes are the other end's, whole, in order, none again once read"
   pub management : (xs ys : List Event) (i : Instruction) (n : ℕ) → es ≡ xs ++ (heard i n ∷ ys) → at (heardIn xs) (saidIn xs) ≡ some i
@@ -144,10 +148,11 @@ pub record AbstractRules (es : List Event) : Type 0 where
   -- "and never again once answered "done""
   pub once : (xs ys : List Event) (n s part : ℕ) (rs : List Representation) (room : ℕ) (a : Answer) (o : Output)
       → es ≡ xs ++ (offered n s part rs room a o ∷ ys) → Accepted n xs → ⊥
-  -- "a trailer is offered only after its stream's non-trailer block was answered "done""
+  -- "a trailer is offered, and "over" is said, only after all non-trailer blocks ever written on its stream were answered "done", or for "over" the stream
+  -- was reset"
   pub trailers : (xs ys : List Event) (n s : ℕ) (rs : List Representation) (room : ℕ) (a : Answer) (o : Output)
-      → es ≡ xs ++ (offered n s 1 rs room a o ∷ ys)
-      → (m : ℕ) × (w : Written) × (at m (writtenIn xs) ≡ some w) × (w .stream ≡ s) × (w .part ≡ 0) × Accepted m xs
+      → es ≡ xs ++ (offered n s 1 rs room a o ∷ ys) → NontrailersDone es s xs
+  pub overs : (xs ys : List Event) (s : ℕ) → es ≡ xs ++ (told over s ∷ ys) → NontrailersDone es s xs ⊎ List·Memᴰ (link.Event.reset s) xs
   -- "a stream is told as ended only after every block ever written on it was answered "done", or it was reset"
   pub ends : (xs ys : List Event) (s : ℕ) → es ≡ xs ++ (told ended s ∷ ys)
       → ((n : ℕ) (w : Written) → at n (writtenIn es) ≡ some w → w .stream ≡ s → Accepted n xs) ⊎ List·Memᴰ (link.Event.reset s) xs

@@ -8,7 +8,7 @@ use mathlib.Core.List.{List}
 use lib.ListN.{length}
 use Rattle.fields.specs.Form.{Field}
 use Rattle.blocks.specs.Representation.{Representation}
-use Rattle.model.specs.Parts.{Part, partNumber, ended, Delete, namesPart, streams}
+use Rattle.model.specs.Parts.{Part, nontrailer, trailer, partNumber, over, ended, Delete, namesPart, streams}
 use Rattle.model.specs.Outcome.{nothing, outputBytes, Outcome, finish}
 use Rattle.model.specs.Decoder.{Decoder, deleteOf, ready, FormsDecoder}
 use Rattle.model.specs.DecoderCalls.{DecoderCall, close, collect, hold, decoderCall}
@@ -46,10 +46,15 @@ pub record Promises : Type 0 where
   pub inserted : (E : Encoder) (name value : List ℕ) (room : ℕ) → Tells room (encoderCall E (insert name value room))
   pub deleted : (E : Encoder) (i room : ℕ) → Tells room (encoderCall E (delete i room))
   pub encoded : (E : Encoder) (s part : ℕ) (fs : List Field) (room : ℕ) → Tells room (encoderCall E (at-encoder.block s part fs room))
-  -- "A non-trailer block answered "done" finishes its part .. the same for the trailer": no block is accepted there any more
-  pub done-finishes : (D : Decoder) (s : ℕ) (p : Part) (rs : List Representation) (room : ℕ)
-      → decoderCall D (at-decoder.block s (partNumber p) rs room) .answer .number ≡ 0
-      → (qs : List Representation) → AbstractCouldStill (decoderCall D (at-decoder.block s (partNumber p) rs room) .state) s p qs → ⊥
+  -- "a non-trailer block does not finish its part": it leaves the state as it was
+  pub nontrailer-leaves : (D : Decoder) (s : ℕ) (rs : List Representation) (room : ℕ)
+      → decoderCall D (at-decoder.block s (partNumber nontrailer) rs room) .state ≡ D
+  -- "a trailer block is answered "done", which finishes both": no block of either part is accepted any more
+  pub trailer-finishes : (D : Decoder) (s : ℕ) (p : Part) (rs : List Representation) (room : ℕ)
+      → decoderCall D (at-decoder.block s (partNumber trailer) rs room) .answer .number ≡ 0
+      → (qs : List Representation) → AbstractCouldStill (decoderCall D (at-decoder.block s (partNumber trailer) rs room) .state) s p qs → ⊥
+  -- "The host says "non-trailer part over""
+  pub over-finishes : (D : Decoder) (s : ℕ) → s < streams → (rs : List Representation) → AbstractCouldStill (decoderCall D (close over s) .state) s nontrailer rs → ⊥
   -- "a stream has ended or was reset: both parts are finished"
   pub ended-finishes : (D : Decoder) (s : ℕ) (p : Part) → s < streams → (rs : List Representation) → AbstractCouldStill (decoderCall D (close ended s) .state) s p rs → ⊥
   -- the hold enquiry about an entry under deletion

@@ -1,6 +1,6 @@
 -- Which part is in turn, by the marks in memory: one law for each way through the test.
 -- By the tests of stream and part number: a set bit is a part that is not finished.
-use mathlib.Core.Path.{_≡_, refl, sym, ap, ap₂, _∙_}
+use mathlib.Core.Path.{_≡_, refl, sym, ap, _∙_}
 use Prim.Native.Nat.{ℕ, _≤_, _<_}
 use mathlib.Core.Bool.{Bool, true, false, not, _&&_}
 use mathlib.Core.Option.{Option, none, some}
@@ -52,13 +52,10 @@ module _ (m : List ℕ) (s : ℕ) (fits : s < streams) where
   unfolding marksOf
   marked p = pick-true _ _ _ (lt-ltb s streams fits)
 
-  nontrailer-turn : inTurn (marksOf m) s nontrailer ≡ isSet m (marksPlace nontrailer) s
+  -- a part is in turn where its mark is set
+  marked-turn : (p : Part) → inTurn (marksOf m) s p ≡ isSet m (marksPlace p) s
   unfolding inTurn
-  nontrailer-turn = ap not (marked nontrailer) ∙ twice _
-
-  trailer-turn : inTurn (marksOf m) s trailer ≡ not (isSet m (marksPlace nontrailer) s) && isSet m (marksPlace trailer) s
-  unfolding inTurn
-  trailer-turn = ap₂ _&&_ (marked nontrailer) (ap not (marked trailer) ∙ twice _)
+  marked-turn p = ap not (marked p) ∙ twice _
 
 -- ---- each way through the test
 
@@ -73,19 +70,8 @@ module _ (m : List ℕ) (s n : ℕ) where
   unfolding partTurn
   turn-no-part z o = ap (partTurn (marksOf m) s) (no-part n z o)
 
-  module _ (fits : s < streams) where
-    pub turn-nontrailer : n ≡ 0 → Test ≡ isSet m (marksPlace nontrailer) s
-    turn-nontrailer e = ap (partTurn (marksOf m) s) (nontrailer-part n e) ∙ below (marksOf m) s nontrailer fits ∙ nontrailer-turn m s fits
-
-    trailer-both : n ≡ 1 → Test ≡ not (isSet m (marksPlace nontrailer) s) && isSet m (marksPlace trailer) s
-    trailer-both e = ap (partTurn (marksOf m) s) (trailer-part n e) ∙ below (marksOf m) s trailer fits ∙ trailer-turn m s fits
-
-    -- "a trailer before its non-trailer"
-    pub turn-early : n ≡ 1 → isSet m (marksPlace nontrailer) s ≡ true → Test ≡ false
-    turn-early e waiting = trailer-both e ∙ ap (λ (b : Bool). not b && isSet m (marksPlace trailer) s) waiting
-
-    pub turn-trailer : n ≡ 1 → isSet m (marksPlace nontrailer) s ≡ false → Test ≡ isSet m (marksPlace trailer) s
-    turn-trailer e done = trailer-both e ∙ ap (λ (b : Bool). not b && isSet m (marksPlace trailer) s) done
+  pub turn-part : (p : Part) → partOf n ≡ some p → s < streams → Test ≡ isSet m (marksPlace p) s
+  turn-part p e fits = ap (partTurn (marksOf m) s) e ∙ below (marksOf m) s p fits ∙ marked-turn m s fits p
 
 -- ---- the answer, by the test
 
@@ -104,25 +90,17 @@ module _ (m : List ℕ) (s n : ℕ) where
   pub no-part-out : (n ≡ 0 → ⊥) → (n ≡ 1 → ⊥) → Answer ≡ Out
   no-part-out z o = out (partOf n) (turn-no-part m s n z o)
 
-  -- the stream as a type, and what was found of its marks
-  module _ (x : StreamNumber) (new : x ≡ record { value = s }) (fits : s < streams) where
-    of : (p : Part) (b : Bool) → partOf n ≡ some p → Test m s n ≡ b → Answer ≡ pick b (Of x (caseOf p)) Out
+  -- the stream as a type, and what was found of the part's mark
+  module _ (x : StreamNumber) (new : x ≡ record { value = s }) (fits : s < streams) (b : Bool) where
+    of : (p : Part) → partOf n ≡ some p → b ≡ isSet m (marksPlace p) (x .value) → Answer ≡ pick b (Of x (caseOf p)) Out
     unfolding turnOf
-    of p b e d =
-        rw new (ap (turnOf (marksOf m) s) e ∙ ap (λ (t : Bool). pick t (Of (record { value = s }) (caseOf p)) Out) (sym (ap (partTurn (marksOf m) s) e) ∙ d))
+    of p e found =
+        let here : isSet m (marksPlace p) s ≡ b = sym (found ∙ ap (λ (y : StreamNumber). isSet m (marksPlace p) (y .value)) new) in
+        let turn : partTurn (marksOf m) s (some p) ≡ b = sym (ap (partTurn (marksOf m) s) e) ∙ turn-part m s n p e fits ∙ here in
+        rw new (ap (turnOf (marksOf m) s) e ∙ ap (λ (t : Bool). pick t (Of (record { value = s }) (caseOf p)) Out) turn)
 
-    module _ (waiting : Bool) (w : waiting ≡ isSet m (marksPlace nontrailer) (x .value)) where
-      at-s : waiting ≡ isSet m (marksPlace nontrailer) s
-      at-s = w ∙ ap (λ (y : StreamNumber). isSet m (marksPlace nontrailer) (y .value)) new
+    pub nontrailer-answer : n ≡ 0 → b ≡ isSet m (marksPlace nontrailer) (x .value) → Answer ≡ pick b (Of x (caseOf nontrailer)) Out
+    nontrailer-answer e = of nontrailer (nontrailer-part n e)
 
-      pub nontrailer-answer : n ≡ 0 → Answer ≡ pick waiting (Of x (caseOf nontrailer)) Out
-      nontrailer-answer e = of nontrailer waiting (nontrailer-part n e) (turn-nontrailer m s n fits e ∙ sym at-s)
-
-      pub early-out : n ≡ 1 → waiting ≡ true → Answer ≡ Out
-      early-out e d = out (partOf n) (turn-early m s n fits e (sym at-s ∙ d))
-
-      pub trailer-answer : n ≡ 1 → waiting ≡ false → (last : Bool) → last ≡ isSet m (marksPlace trailer) (x .value)
-          → Answer ≡ pick last (Of x (caseOf trailer)) Out
-      trailer-answer e d last o =
-          of trailer last (trailer-part n e)
-          (turn-trailer m s n fits e (sym at-s ∙ d) ∙ sym (o ∙ ap (λ (y : StreamNumber). isSet m (marksPlace trailer) (y .value)) new))
+    pub trailer-answer : n ≡ 1 → b ≡ isSet m (marksPlace trailer) (x .value) → Answer ≡ pick b (Of x (caseOf trailer)) Out
+    trailer-answer e = of trailer (trailer-part n e)

@@ -1,3 +1,4 @@
 -- Parts of streams in memory.
 pub mod Turn
+pub mod Close
 pub mod Hold

@@ -1,3 +1,4 @@
-// Parts of streams: which is in turn, and which hold an entry under deletion.
+// Parts of streams: which is in turn, what closes them, and which hold an entry under deletion.
+pub mod close;
 pub mod hold;
 pub mod turn;

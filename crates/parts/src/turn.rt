@@ -1,12 +1,12 @@
-// Which part of which stream is in turn, and where a kind's marks stand. Behind `turn_of` the stream and the part are types, not numbers.
+// Which part of which stream is in turn. Behind `turn_of` the stream and the part are types, not numbers.
 ghost use mathlib.Core.Path.{_≡_};
 ghost use Prim.Native.Nat.{_≤_};
 ghost use lib.ListN.{length};
 ghost use Rattle.memory.specs.Choice.{pick};
 ghost use Rattle.model.specs.Parts.{partOf};
-ghost use Rattle.state.specs.Layout.{frontLength, marksPlace};
+ghost use Rattle.state.specs.Layout.{frontLength};
 ghost use Rattle.state.specs.Front.{marksOf};
-ghost use Rattle.parts.specs.Turn.{partIn, turnOf};
+ghost use Rattle.parts.specs.Turn.{turnOf};
 use integers::number::StreamNumber;
 use marks::mark::is_set;
 use state::layout::NONTRAILER_MARKS;
@@ -38,7 +38,7 @@ fn turn_if(marked: bool, stream: StreamNumber, part: Part) -> Turn
     Turn::Out
 }
 
-// Is this part of this stream in turn? A set mark says that the part is unfinished, or not written yet.
+// Is this part of this stream in turn? A set mark says that the part is unfinished, or that blocks of it may still be written.
 pub fn turn_of(m: &[u8], stream: u64, part: u64) -> Turn
     requires { ⌜ frontLength ≤ length (now m) ⌝ }
     ensures { λ r. ⌜ r ≡ turnOf (marksOf (now (m .entry))) stream (partOf part) ⌝ }
@@ -47,25 +47,11 @@ pub fn turn_of(m: &[u8], stream: u64, part: u64) -> Turn
         return Turn::Out;
     }
     let s = StreamNumber::new(stream as u16);
-    let waiting = is_set(m, NONTRAILER_MARKS, s);
     if part == NONTRAILER {
-        return turn_if(waiting, s, Part::Nontrailer);
+        return turn_if(is_set(m, NONTRAILER_MARKS, s), s, Part::Nontrailer);
     }
     if part != TRAILER {
         return Turn::Out;
     }
-    if waiting {
-        return Turn::Out;
-    }
     turn_if(is_set(m, TRAILER_MARKS, s), s, Part::Trailer)
-}
-
-// The marks of a kind of part.
-pub fn marks_place(part: Part) -> usize
-    ensures { λ r. ⌜ r ≡ marksPlace (partIn part) ⌝ }
-{
-    match part {
-        Part::Nontrailer => NONTRAILER_MARKS,
-        Part::Trailer => TRAILER_MARKS,
-    }
 }

@@ -8,7 +8,7 @@ use Rattle.decoder.specs.Calls as decoding
 use Rattle.encoder.specs.Calls as encoding
 use Rattle.recording.specs.declared.Call.{Call}
 use Rattle.recording.specs.declared.Kind.{Kind}
-use Rattle.recording.specs.declared.Kind.the-variants.{DecoderStart, DecoderRead, DecoderBlock, DecoderEnded, DecoderCollect, DecoderHold, EncoderStart, EncoderInsert, EncoderDelete, EncoderBlock, EncoderAcknowledge}
+use Rattle.recording.specs.declared.Kind.the-variants.{DecoderStart, DecoderRead, DecoderBlock, DecoderOver, DecoderEnded, DecoderCollect, DecoderHold, EncoderStart, EncoderInsert, EncoderDelete, EncoderBlock, EncoderAcknowledge}
 
 -- the answer, both memories and the output afterwards
 pub record Performed : Type 0 where
@@ -35,6 +35,7 @@ unfoldable pub performedAs : Kind → ℕ → ℕ → List ℕ → ℕ → List 
 performedAs DecoderStart n k s at d e out = onlyDecoder e out (decoding.startCall d n)
 performedAs DecoderRead n k s at d e out = onlyDecoder e out (decoding.readCall d s)
 performedAs DecoderBlock n k s at d e out = atDecoder e (decoding.blockCall d n k s out)
+performedAs DecoderOver n k s at d e out = onlyDecoder e out (decoding.overCall d n)
 performedAs DecoderEnded n k s at d e out = onlyDecoder e out (decoding.endedCall d n)
 performedAs DecoderCollect n k s at d e out = atDecoder e (decoding.collectCall d out)
 performedAs DecoderHold n k s at d e out = record { answer = decoding.holdCall d n .answer; decoder = d; encoder = e; output = out }

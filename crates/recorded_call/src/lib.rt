@@ -54,6 +54,7 @@ pub fn perform(
             s,
             output,
         ),
+        Kind::DecoderOver => decoder::over::over(decoder, call.first),
         Kind::DecoderEnded => decoder::ended::ended(decoder, call.first),
         Kind::DecoderCollect => decoder_collect::collect::collect(decoder, output),
         Kind::DecoderHold => decoder::enquiry::enquire(decoder, call.first),

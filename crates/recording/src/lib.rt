@@ -13,6 +13,7 @@ pub enum Kind {
     DecoderStart,
     DecoderRead,
     DecoderBlock,
+    DecoderOver,
     DecoderEnded,
     DecoderCollect,
     DecoderHold,
@@ -103,6 +104,9 @@ fn decoder_kind(name: &[u8]) -> Named {
     if is(name, b"block") {
         return Named::Known(Kind::DecoderBlock);
     }
+    if is(name, b"over") {
+        return Named::Known(Kind::DecoderOver);
+    }
     if is(name, b"ended") {
         return Named::Known(Kind::DecoderEnded);
     }
@@ -158,6 +162,7 @@ fn shape_of(kind: Kind) -> Shape {
         Kind::DecoderStart => shaped(1, 0, false),
         Kind::DecoderRead => shaped(0, 1, false),
         Kind::DecoderBlock => shaped(2, 1, true),
+        Kind::DecoderOver => shaped(1, 0, false),
         Kind::DecoderEnded => shaped(1, 0, false),
         Kind::DecoderCollect => shaped(0, 0, true),
         Kind::DecoderHold => shaped(1, 0, false),

@@ -29,7 +29,7 @@ withDeletes f n = record { role = f .role; limit = f .limit; rows = f .rows; del
 abbrev pub withMarks : Front → Marks → Front
 withMarks f k = record { role = f .role; limit = f .limit; rows = f .rows; deletes = f .deletes; marks = k }
 
--- a set bit: at the decoder the part is unfinished, at the encoder it is not written yet
+-- a set bit: at the decoder the part is unfinished, at the encoder blocks of it may still be written
 unfoldable pub marksOf : List ℕ → Marks
 marksOf m s p = pick (ltb s streams) (not (isSet m (marksPlace p) s)) false
 

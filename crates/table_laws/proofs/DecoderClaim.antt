@@ -24,7 +24,7 @@ use Rattle.table_laws.proofs.DecoderSearches.{
   delete-found,
   delete-good,
 }
-use Rattle.table_laws.proofs.DecoderFronts.{start-decoder, finish-decoder, end-decoder}
+use Rattle.table_laws.proofs.DecoderFronts.{start-decoder, over-decoder, end-decoder, finish-decoder}
 use Rattle.table_laws.proofs.DecoderInsert.{opening-decoder, named-decoder, insert-decoder}
 use Rattle.table_laws.proofs.DecoderKeep.{keep-decoder}
 use Rattle.table_laws.proofs.DecoderFree.{removing-decoder, dropping-decoder, free-decoder}
@@ -52,8 +52,9 @@ module _ (m : List ℕ) (D : Decoder) (H : HoldsDecoder D m) where
     removing = λ x p e. removing-decoder D m H x p (found-at D m H x p e);
     dropping = λ x p k e s. dropping-decoder D m H x p (found-at D m H x p e) k s;
     free = λ x p k e s. free-decoder D m H x p (found-at D m H x p e) k s;
-    finish = λ s p h. finish-decoder D m H s h p;
+    over = λ s h. over-decoder D m H s h;
     end = λ s h. end-decoder D m H s h;
+    finish = λ s p h. finish-decoder D m H s h p;
   }
 
 pub decoder-claim : DecoderClaim

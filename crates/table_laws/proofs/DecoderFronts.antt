@@ -8,18 +8,19 @@ use Rattle.memory.specs.Bytes.{overlay, Has}
 use Rattle.memory.proofs.Overlay.{overlay-same}
 use Rattle.memory.proofs.Places.{has-overlay, has-end}
 use Rattle.marks.specs.Marks.{cleared}
-use Rattle.model.specs.Parts.{Part, nontrailer, trailer, mark, markBoth, streams}
+use Rattle.model.specs.Parts.{Part, nontrailer, Marks, mark, markBoth, blockMarks, streams}
 use Rattle.model.specs.Decoder.{Decoder, startDecoder, withFinished}
 use Rattle.state.specs.Layout.{decoderRole, deletesPlace, marksPlace}
-use Rattle.state.specs.Front.{Front, overlayFront}
+use Rattle.state.specs.Front.{Front, withMarks, overlayFront}
 use Rattle.state.specs.DecoderState.{deletesBytes, decoderFront, overlayDecoder}
 use Rattle.state_laws.proofs.FrontHolds.{FineFront}
 use Rattle.state_laws.proofs.FrontOverlay.{length-overlayFront, front-beyond}
 use Rattle.state_laws.proofs.DecoderHolds.{HoldsDecoder}
+use Rattle.parts.specs.Close.{closedBoth, closedBy}
 use Rattle.table.specs.Changes.{started}
 use Rattle.table_laws.proofs.FrontFits.{marks-fit}
 use Rattle.table_laws.proofs.FrontStores.{start-front}
-use Rattle.table_laws.proofs.FrontMarks.{marks-front, both-front}
+use Rattle.table_laws.proofs.FrontMarks.{marks-front, both-front, block-front}
 
 -- ---- what stands after a front stays there under another
 
@@ -46,17 +47,23 @@ pub start-decoder : (m : List ℕ) (limit : ℕ) → started m decoderRole limit
 unfolding overlayDecoder decoderFront startDecoder deletesBytes
 start-decoder m limit = start-front m decoderRole limit
 
-module _ (D : Decoder) (m : List ℕ) (H : HoldsDecoder D m) (s : ℕ) (h : s < streams) where
-  pub finish-decoder : (p : Part) → cleared m (marksPlace p) s ≡ overlayDecoder (withFinished D (mark s p (D .finished))) m
+module _ (D : Decoder) (m : List ℕ) (H : HoldsDecoder D m) where
+  -- the front with other marks
+  marks-only : (marks : Marks) → overlayFront (withMarks (decoderFront D) marks) m ≡ overlayDecoder (withFinished D marks) m
   unfolding decoderFront
-  finish-decoder p =
-      let E : Decoder = withFinished D (mark s p (D .finished)) in
-      marks-front (decoderFront D) m (H .front) s h p
-      ∙ front-only D E (decoderFront E) m H (marks-fit (decoderFront D) (H .front .fine) (mark s p (D .finished))) refl refl
+  marks-only marks =
+      let E : Decoder = withFinished D marks in
+      front-only D E (decoderFront E) m H (marks-fit (decoderFront D) (H .front .fine) marks) refl refl
 
-  pub end-decoder : cleared (cleared m (marksPlace nontrailer) s) (marksPlace trailer) s ≡ overlayDecoder (withFinished D (markBoth s (D .finished))) m
-  unfolding decoderFront
-  end-decoder =
-      let E : Decoder = withFinished D (markBoth s (D .finished)) in
-      both-front (decoderFront D) m (H .front) s h
-      ∙ front-only D E (decoderFront E) m H (marks-fit (decoderFront D) (H .front .fine) (markBoth s (D .finished))) refl refl
+  module _ (s : ℕ) (h : s < streams) where
+    pub over-decoder : cleared m (marksPlace nontrailer) s ≡ overlayDecoder (withFinished D (mark s nontrailer (D .finished))) m
+    unfolding decoderFront
+    over-decoder = marks-front (decoderFront D) m (H .front) s h nontrailer ∙ marks-only (mark s nontrailer (D .finished))
+
+    pub end-decoder : closedBoth m s ≡ overlayDecoder (withFinished D (markBoth s (D .finished))) m
+    unfolding decoderFront
+    end-decoder = both-front (decoderFront D) m (H .front) s h ∙ marks-only (markBoth s (D .finished))
+
+    pub finish-decoder : (p : Part) → closedBy p m s ≡ overlayDecoder (withFinished D (blockMarks p s (D .finished))) m
+    unfolding decoderFront
+    finish-decoder p = block-front p (decoderFront D) m (H .front) s h ∙ marks-only (blockMarks p s (D .finished))

@@ -7,12 +7,11 @@ use mathlib.Core.List.{List, [], _∷_, _++_, map, map-append}
 use lib.Dec.{eqb}
 use lib.ListN.{length, length-map}
 use Rattle.memory.proofs.Order.{pick-both}
-use Rattle.marks.specs.Marks.{cleared}
 use Rattle.model.specs.Table.{Ascending, look, put, cut}
-use Rattle.model.specs.Parts.{Part, mark, streams}
+use Rattle.model.specs.Parts.{Part, blockMarks, streams}
 use Rattle.model.specs.Encoder.{Sent, sentIndex, Encoder, startEncoder, withSent, withWritten, newSent, FineSent, asDeleted, markDeleted, referred}
 use Rattle.model_laws.proofs.Tables.{pick-yes, pick-no}
-use Rattle.state.specs.Layout.{encoderRole, marksPlace, heldOf, countOf}
+use Rattle.state.specs.Layout.{encoderRole, heldOf, countOf}
 use Rattle.state.specs.Rows.{Row, rowsSize}
 use Rattle.state.specs.Front.{Front, withRows, withMarks, overlayFront}
 use Rattle.state.specs.EncoderState.{rowOfSent, encoderFront, referenceOver, referencesOver, overlayEncoder}
@@ -24,6 +23,7 @@ use Rattle.state_laws.proofs.References.{HasReference, HasReferences, reference
 use Rattle.state_laws.proofs.ReferenceChanges.{kept-stands, cut-stands}
 use Rattle.state_laws.proofs.EncoderHolds.{HoldsEncoder, fits-each}
 use Rattle.state_laws.proofs.EncoderOverlay.{references-front}
+use Rattle.parts.specs.Close.{closedBy}
 use Rattle.table.specs.Changes.{Opening, inserted, Removing, removed, started}
 use Rattle.table_rows.specs.Rows.{statusSet}
 use Rattle.deletes.specs.Deletes.{raised, unreferred}
@@ -31,7 +31,7 @@ use Rattle.table_laws.specs.EncoderChanges.{referredAt}
 use Rattle.table_laws.proofs.FrontRows.{withStatus}
 use Rattle.table_laws.proofs.FrontFits.{newRow, insert-fits, remove-fits, status-fits, marks-fit}
 use Rattle.table_laws.proofs.FrontStores.{start-front}
-use Rattle.table_laws.proofs.FrontMarks.{marks-front}
+use Rattle.table_laws.proofs.FrontMarks.{block-front}
 use Rattle.table_laws.proofs.FrontStatus.{status-front}
 use Rattle.table_laws.proofs.FrontOpening.{opening-front}
 use Rattle.table_laws.proofs.FrontInsert.{insert-front}
@@ -105,16 +105,15 @@ module _ (E : Encoder) (m : List ℕ) (H : HoldsEncoder E m) where
       ap (λ (r : List Row). overlayFront (withRows f r) m) (sym e)
       ∙ sym (references-same es (overlayFront g m) (references-front g es m (subst (λ (r : List Row). FineFront (withRows f r)) (sym e) fine) has))
 
-  -- ---- a part written
+  -- ---- what a block closes that was written
 
-  pub writes : (s : ℕ) (p : Part) → s < streams
-      → cleared m (marksPlace p) s ≡ overlayEncoder (withWritten E (mark s p (E .written))) m
+  pub writes : (s : ℕ) (p : Part) → s < streams → closedBy p m s ≡ overlayEncoder (withWritten E (blockMarks p s (E .written))) m
   unfolding overlayEncoder encoderFront
   writes s p h =
-      let g : Front = withMarks f (mark s p (E .written)) in
-      marks-front f m (H .front) s h p
+      let g : Front = withMarks f (blockMarks p s (E .written)) in
+      block-front p f m (H .front) s h
       ∙ sym (references-same (E .entries) (overlayFront g m)
-      (references-front g (E .entries) m (marks-fit f (H .front .fine) (mark s p (E .written))) (H .references)))
+      (references-front g (E .entries) m (marks-fit f (H .front .fine) (blockMarks p s (E .written))) (H .references)))
 
   -- ---- where an entry is found
 

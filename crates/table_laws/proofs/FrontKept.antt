@@ -6,12 +6,13 @@ use lib.ListN.{length}
 use Rattle.memory.specs.Bytes.{overlay}
 use Rattle.memory.specs.Numbers.{numberBytes}
 use Rattle.marks.specs.Marks.{cleared}
-use Rattle.model.specs.Parts.{Part, nontrailer, trailer, mark, markBoth}
+use Rattle.model.specs.Parts.{Part, mark, markBoth}
 use Rattle.state.specs.Layout.{marksPlace, countOf}
 use Rattle.state.specs.Rows.{Row, rowsSize}
 use Rattle.state.specs.Front.{Front, withRows, withDeletes, withMarks}
 use Rattle.state_laws.proofs.FrontHolds.{HoldsFront}
 use Rattle.state_laws.proofs.FrontOverlay.{overlay-holds}
+use Rattle.parts.specs.Close.{closedBoth}
 use Rattle.table.specs.Changes.{inserted, removed, freshFront, started}
 use Rattle.table_rows.specs.Rows.{statusSet}
 use Rattle.deletes.specs.Deletes.{renumbered}
@@ -59,8 +60,7 @@ module _ (f : Front) (m : List ℕ) (H : HoldsFront f m) where
       kept-front f (withMarks f (mark s p (f .marks))) m (cleared m (marksPlace p) s) H
       (marks-fit f (H .fine) (mark s p (f .marks))) (marks-front f m H s h p)
 
-  pub both-hold : (s : ℕ) → s < 4096
-      → HoldsFront (withMarks f (markBoth s (f .marks))) (cleared (cleared m (marksPlace nontrailer) s) (marksPlace trailer) s)
+  pub both-hold : (s : ℕ) → s < 4096 → HoldsFront (withMarks f (markBoth s (f .marks))) (closedBoth m s)
   both-hold s h =
-      kept-front f (withMarks f (markBoth s (f .marks))) m (cleared (cleared m (marksPlace nontrailer) s) (marksPlace trailer) s) H
+      kept-front f (withMarks f (markBoth s (f .marks))) m (closedBoth m s) H
       (marks-fit f (H .fine) (markBoth s (f .marks))) (both-front f m H s h)

@@ -1,4 +1,5 @@
 -- A part marked in memory that holds a front is the front with that mark over it: the words of its kind are stored, those of the other kind stand already.
+-- So are both parts, and what a block closes.
 use Prim.Native.Nat.{ℕ, _+_, _<_}
 use mathlib.Core.Path.{_≡_, refl, sym, ap, _∙_}
 use native.Mathlib.Omega.{arith}
@@ -12,10 +13,12 @@ use Rattle.memory.proofs.Places.{has-left, has-right}
 use Rattle.marks.specs.Marks.{cleared, wordsBytes}
 use Rattle.marks.proofs.Clearing.{cleared-words}
 use Rattle.marks.proofs.Words.{words-length, words-same}
-use Rattle.model.specs.Parts.{Part, nontrailer, trailer, samePart, Marks, mark, markBoth}
+use Rattle.model.specs.Parts.{Part, nontrailer, trailer, samePart, Marks, mark, markBoth, blockMarks}
 use Rattle.state.specs.Layout.{marksPlace}
 use Rattle.state.specs.Front.{Front, withMarks, marksBytes, overlayFront}
 use Rattle.state_laws.proofs.FrontHolds.{HoldsFront}
+use Rattle.state_laws.proofs.FrontOverlay.{overlay-self}
+use Rattle.parts.specs.Close.{closedBoth, closedBy}
 use Rattle.table_laws.proofs.Within.{store-start, store-end}
 use Rattle.table_laws.proofs.Fronts.{kept-front, then-front}
 use Rattle.table_laws.proofs.FrontFits.{marks-fit}
@@ -94,8 +97,8 @@ module _ (f : Front) (m : List ℕ) (H : HoldsFront f m) (s : ℕ) (h : s < 4096
   marks-front p = marks-words p ∙ marks-stored f m H (mark s p k)
 
 -- "both parts are finished"
-pub both-front : (f : Front) (m : List ℕ) → HoldsFront f m → (s : ℕ) → s < 4096
-    → cleared (cleared m (marksPlace nontrailer) s) (marksPlace trailer) s ≡ overlayFront (withMarks f (markBoth s (f .marks))) m
+pub both-front : (f : Front) (m : List ℕ) → HoldsFront f m → (s : ℕ) → s < 4096 → closedBoth m s ≡ overlayFront (withMarks f (markBoth s (f .marks))) m
+unfolding closedBoth
 both-front f m H s h =
     let one : Marks = mark s nontrailer (f .marks) in
     let two : Marks = mark s trailer one in
@@ -106,3 +109,10 @@ both-front f m H s h =
     marks-front g n (kept-front f g m n H (marks-fit f (H .fine) one) d) s h trailer in
     then-front g (withMarks f two) m n (cleared n (marksPlace trailer) s) d e (marks-fit f (H .fine) two) refl refl
     ∙ ap (λ (marks : Marks). overlayFront (withMarks f marks) m) (mark-twice s (f .marks))
+
+-- a non-trailer block closes nothing, so its front is over memory already; a trailer closes both
+pub block-front : (p : Part) (f : Front) (m : List ℕ) → HoldsFront f m → (s : ℕ) → s < 4096
+    → closedBy p m s ≡ overlayFront (withMarks f (blockMarks p s (f .marks))) m
+unfolding closedBy blockMarks
+block-front nontrailer f m H s h = sym (overlay-self f m H)
+block-front trailer f m H s h = both-front f m H s h

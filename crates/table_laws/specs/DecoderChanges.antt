@@ -9,7 +9,7 @@ use Rattle.memory.specs.Bytes.{Small}
 use Rattle.instructions.specs.Instruction.{FineIndex, FineList}
 use Rattle.marks.specs.Marks.{cleared}
 use Rattle.model.specs.Table.{look, put}
-use Rattle.model.specs.Parts.{Part, nontrailer, trailer, mark, markBoth, Delete, streams}
+use Rattle.model.specs.Parts.{Part, nontrailer, mark, markBoth, blockMarks, Delete, streams}
 use Rattle.model.specs.Decoder.{Held, heldIndex, Decoder, heldSize, deleteOf, startDecoder, withEntries, withDeletes, withFinished, without}
 use Rattle.state.specs.Layout.{decoderLength, decoderRole, marksPlace, limitOf, heldOf, countOf, deleteCount, statusAt}
 use Rattle.state.specs.Rows.{nameAt, valueAt}
@@ -17,6 +17,7 @@ use Rattle.state.specs.DecoderState.{deleteAt, decoderOf, overlayDecoder}
 use Rattle.state.specs.Forms.{formsDecoder}
 use Rattle.table_search.specs.Search.{Ordered, findFrom}
 use Rattle.table_search.specs.declared.find.Found.the-variants.{At, Vacant}
+use Rattle.parts.specs.Close.{closedBoth, closedBy}
 use Rattle.parts.specs.Hold.{GoodDelete}
 use Rattle.table.specs.Changes.{Opening, NamedHere, inserted, Removing, removed, started}
 use Rattle.deletes.specs.Deletes.{appended, Dropping, dropped}
@@ -61,10 +62,10 @@ pub record DecoderChanges (m : List ℕ) (D : Decoder) : Type 0 where
   pub removing : (x place : ℕ) → found m x place → Removing m place
   pub dropping : (x place k : ℕ) → found m x place → statusAt m place ≡ suc k → Dropping (removed m place) k
   pub free : (x place k : ℕ) → found m x place → statusAt m place ≡ suc k → dropped (removed m place) k ≡ overlayDecoder (without D x) m
-  -- ---- parts finished
-  pub finish : (s : ℕ) (p : Part) → s < streams → cleared m (marksPlace p) s ≡ overlayDecoder (withFinished D (mark s p (D .finished))) m
-  pub end : (s : ℕ) → s < streams
-      → cleared (cleared m (marksPlace nontrailer) s) (marksPlace trailer) s ≡ overlayDecoder (withFinished D (markBoth s (D .finished))) m
+  -- ---- parts finished: by the host, and by a block that was given
+  pub over : (s : ℕ) → s < streams → cleared m (marksPlace nontrailer) s ≡ overlayDecoder (withFinished D (mark s nontrailer (D .finished))) m
+  pub end : (s : ℕ) → s < streams → closedBoth m s ≡ overlayDecoder (withFinished D (markBoth s (D .finished))) m
+  pub finish : (s : ℕ) (p : Part) → s < streams → closedBy p m s ≡ overlayDecoder (withFinished D (blockMarks p s (D .finished))) m
 
 -- of all memory that forms a decoder's state; and a fresh one
 pub record DecoderClaim : Type 0 where

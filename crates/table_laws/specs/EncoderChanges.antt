@@ -8,14 +8,14 @@ use lib.ListN.{length}
 use lib.Dec.{eqb}
 use Rattle.memory.specs.Choice.{pick}
 use Rattle.memory.specs.Bytes.{Small}
-use Rattle.marks.specs.Marks.{cleared}
 use Rattle.model.specs.Table.{look, put, cut, lowest, vacantFrom}
-use Rattle.model.specs.Parts.{Part, mark, streams}
+use Rattle.model.specs.Parts.{Part, blockMarks, streams}
 use Rattle.model.specs.Encoder.{Sent, sentIndex, Encoder, sentSize, startEncoder, withSent, withWritten, newSent, serves, servesBoth, markDeleted, referred}
-use Rattle.state.specs.Layout.{encoderLength, encoderRole, marksPlace, limitOf, heldOf, countOf}
+use Rattle.state.specs.Layout.{encoderLength, encoderRole, limitOf, heldOf, countOf}
 use Rattle.state.specs.Rows.{rowAt}
 use Rattle.state.specs.EncoderState.{sentOfRow, encoderOf, overlayEncoder}
 use Rattle.state.specs.Forms.{formsEncoder}
+use Rattle.parts.specs.Close.{closedBy}
 use Rattle.table_search.specs.Search.{Ordered}
 use Rattle.name_search.specs.Names.{servesAt, servesBothAt, lowestRow}
 use Rattle.table_search.specs.Search as memory
@@ -68,9 +68,8 @@ pub record EncoderChanges (m : List ℕ) (E : Encoder) : Type 0 where
       → raised m x p s ≡ overlayEncoder (withSent E (map (referredAt s p x) (E .entries))) m
   pub removing : (x place : ℕ) → found m x place → Removing m place
   pub free : (x place : ℕ) → found m x place → removed m place ≡ overlayEncoder (withSent E (cut sentIndex x (E .entries))) m
-  -- ---- a part written
-  pub write : (s : ℕ) (p : Part) → s < streams
-      → cleared m (marksPlace p) s ≡ overlayEncoder (withWritten E (mark s p (E .written))) m
+  -- ---- what a block closes that was written
+  pub write : (s : ℕ) (p : Part) → s < streams → closedBy p m s ≡ overlayEncoder (withWritten E (blockMarks p s (E .written))) m
 
 -- of all memory that forms an encoder's state; and a fresh one
 pub record EncoderClaim : Type 0 where

@@ -23,10 +23,10 @@ use Rattle.instructions.specs.Reading.{readIndex, readInsert, readDelete, readF
 use Rattle.blocks.specs.Reading.{readIndexed, readLiteral, readRepresentation, blockFrom, readBlock}
 use Rattle.blocks.specs.Meaning.{isStatic, withStatics, fieldMeaning, blockMeaning}
 use Rattle.model.specs.Table.{size, look, put, total}
-use Rattle.model.specs.Parts.{partOf, mark, inTurn, namesPart, isOpen, openBelow, lowestOpen}
+use Rattle.model.specs.Parts.{partOf, mark, blockMarks, inTurn, namesPart, isOpen, openBelow, lowestOpen}
 use Rattle.model.specs.Outcome.{outputBytes}
 use Rattle.model.specs.Decoder.{Decoder, heldSize, slotIn, lookup, deleteOf, startDecoder, nameBytes, insertNamed, deleteEntry, readInstruction}
-use Rattle.model.specs.Decoder.{giveFields, decodePart, decodeBlock, holdOf, enquireHold}
+use Rattle.model.specs.Decoder.{giveFields, decodePart, decodeBlock, closeParts, holdOf, enquireHold}
 use Rattle.model.specs.DecoderCalls.{decoderCall, afterDecoder}
 use Rattle.state.specs.Layout.{decoderLength, heldOf}
 use Rattle.state.specs.DecoderState.{overlayDecoder}
@@ -116,9 +116,9 @@ module _ (m : List ℕ) (small : Small m) (ok : startCall m 4096 .answer .number
       codes codeOf codesSize packedSize textAt stringBytes stringAfter stringEnd readString allBytes packs stringWire readName nameWire readDelta readDeltas streamsFrom readList listed names
       entries entryAt textForm fieldForm listForm instructionWire readIndex readInsert readDelete readForDecoder
       readIndexed readLiteral readRepresentation blockFrom readBlock isStatic withStatics fieldMeaning blockMeaning
-      size look put total partOf mark inTurn namesPart isOpen openBelow lowestOpen outputBytes
+      size look put total partOf mark blockMarks inTurn namesPart isOpen openBelow lowestOpen outputBytes
       heldSize slotIn lookup deleteOf startDecoder nameBytes insertNamed deleteEntry readInstruction
-      giveFields decodePart decodeBlock holdOf enquireHold decoderCall afterDecoder partTurn stepped decoderCallOf decoderCallsOf
+      giveFields decodePart decodeBlock closeParts holdOf enquireHold decoderCall afterDecoder partTurn stepped decoderCallOf decoderCallsOf
       pastBelow namedFrom checks
   agreed =
       let two =

@@ -11,12 +11,12 @@ use Rattle.wire.specs.StreamList.{StreamList, names}
 use Rattle.wire.specs.Name.{literal}
 use Rattle.instructions.specs.Instruction.{Instruction, insert, delete, acknowledge, instructionWire}
 use Rattle.instructions.specs.Reading.{readForDecoder, onInstruction, instructionOf}
-use Rattle.model.specs.Parts.{streams}
+use Rattle.model.specs.Parts.{over, streams}
 use Rattle.model.specs.Encoder.{emptyList}
 use Rattle.state.specs.Layout.{heldOf}
 use Rattle.reply.specs.Result.{Result}
 use Rattle.decoder.specs.Calls as decoder
-use Rattle.link.specs.Calls.{DecoderCall, read, hold, decoderResult, decoderAfter, doneBytes}
+use Rattle.link.specs.Calls.{DecoderCall, read, close, hold, decoderResult, decoderAfter, doneBytes}
 use Rattle.link.specs.Calls as calls
 
 -- ---- calls after a start
@@ -45,10 +45,10 @@ numbersSince m limit cs = decoder.startCall m limit .answer .number ∷ numbers 
 abbrev pub block : List ℕ → ℕ → DecoderCall
 block s room = calls.DecoderCall.block 0 0 s (replicate room 0)
 
--- streams 0 to n - 1 "past their non-trailer part": by empty blocks
+-- streams 0 to n - 1 "past their non-trailer part": the host says that it is over
 unfoldable pub pastBelow : ℕ → List DecoderCall
 pastBelow zero = []
-pastBelow (suc n) = calls.DecoderCall.block n 0 [] [] ∷ pastBelow n
+pastBelow (suc n) = close over n ∷ pastBelow n
 
 -- ---- which streams a delete's first list names
 

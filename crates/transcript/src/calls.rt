@@ -6,11 +6,11 @@ use link_state::events::event_of;
 use link_state::events::role_of;
 use link_state::events::side_of;
 use link_state::notes::NOTES;
-use link_state::notes::begin_table;
 use link_state::notes::forget_waiting;
-use link_state::notes::note_waiting;
-use link_state::notes::note_written;
+use link_state::notes::note_over;
 use link_state::sums::block_sum;
+use link_state::written::begin_table;
+use link_state::written::note_written;
 use machines::falls::RECORDS;
 use readable::form::filled;
 use recording::Call;
@@ -24,6 +24,12 @@ use transcript_lines::lines;
 use transcript_log::log::Log;
 use transcript_log::tally::Count;
 use transcript_log::waiting::still_waiting;
+use transcript_log::waiting::waiting_message;
+use transcript_log::waiting::waiting_stream;
+
+const MESSAGE: u64 = 0;
+
+const TRAILER: u64 = 1;
 
 // The first `n` bytes, or all where there are not so many.
 fn front<'a>(s: &'a [u8], n: usize) -> &'a [u8] {
@@ -68,7 +74,7 @@ pub fn answered(
     }
     let told = other(out, counted, line, call, r, notes, machines);
     if r.number == DONE {
-        note(notes, told.ends.encoder.table, call, put, wrote);
+        return noted(out, told, line, call, put, wrote, notes);
     }
     told
 }
@@ -183,14 +189,40 @@ fn encoder_started(out: &mut [u8], log: Log, line: u64, notes: &mut [u64; NOTES]
     log.with_text(a)
 }
 
-// Notes what a call that is done says of blocks: the encoder wrote one in this table, or none of a stream waits any more.
-fn note(notes: &mut [u64; NOTES], table: u64, call: Call, put: &[u8], wrote: &[u8]) {
+// Notes what a call that is done says of blocks: the encoder wrote one, or none of a stream, or of its message, waits any more. Those that did
+// are named before.
+fn noted(
+    out: &mut [u8],
+    log: Log,
+    line: u64,
+    call: Call,
+    put: &[u8],
+    wrote: &[u8],
+    notes: &mut [u64; NOTES],
+) -> Log {
     let kind = call.kind;
+    let stream = call.first;
     if let Kind::EncoderBlock = kind {
-        note_written(notes, table, call.first, call.second, block_sum(wrote, put));
+        note_written(
+            notes,
+            log.ends.encoder.table,
+            stream,
+            call.second,
+            block_sum(wrote, b""),
+            block_sum(wrote, put),
+        );
+        return log;
+    }
+    if let Kind::DecoderOver = kind {
+        let told = waiting_message(out, log, line, notes, stream);
+        note_over(notes, stream, MESSAGE);
+        return told;
     }
     if let Kind::DecoderEnded = kind {
-        note_waiting(notes, call.first, 0, false);
-        note_waiting(notes, call.first, 1, false);
+        let told = waiting_stream(out, log, line, notes, stream);
+        note_over(notes, stream, MESSAGE);
+        note_over(notes, stream, TRAILER);
+        return told;
     }
+    log
 }

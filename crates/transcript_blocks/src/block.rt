@@ -4,7 +4,9 @@ use integers::answer::WAITS;
 use link_state::doubt::Doubt;
 use link_state::doubt::doubt_of;
 use link_state::notes::NOTES;
+use link_state::notes::note_answered;
 use link_state::notes::note_waiting;
+use link_state::sums::block_sum;
 use machines::falls::Fall;
 use machines::falls::RECORDS;
 use machines::keep::Told;
@@ -42,11 +44,21 @@ pub fn offered(
     notes: &mut [u64; NOTES],
     machines: &mut [u64; RECORDS],
 ) -> Log {
-    note_waiting(notes, o.stream, o.part, r.number == WAITS);
+    noted(notes, o, r, block);
     if r.number == DONE {
         return done(out, log, o, block, given, notes, machines);
     }
     not_done(out, log, o, r)
+}
+
+// Notes whether the block waits. It is known by its bytes: no list is given of it yet.
+fn noted(notes: &mut [u64; NOTES], o: Offer, r: Reply, block: &[u8]) {
+    let sum = block_sum(block, b"");
+    if r.number == WAITS {
+        note_waiting(notes, o.stream, o.part, sum);
+        return;
+    }
+    note_answered(notes, o.stream, o.part, sum);
 }
 
 fn not_done(out: &mut [u8], log: Log, o: Offer, r: Reply) -> Log {

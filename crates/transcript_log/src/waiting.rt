@@ -1,4 +1,5 @@
 // The blocks that wait.
+ghost use Prim.Native.Nat.{_≤_};
 use crate::log::Log;
 use crate::tally::Count;
 use link_state::notes::ALL_PARTS;
@@ -9,9 +10,20 @@ use readable::form::filled;
 use text_io::print;
 use text_io::print::Text;
 
-fn count(notes: &[u64; NOTES]) -> u64 {
+// The place of a stream's message; its trailer is behind it. A stream above 4,095 has none, and is given the one behind all.
+fn first_of(stream: u64) -> usize
+    ensures { λ r. ⌜ r ≤ 8192 ⌝ }
+{
+    if (ALL_PARTS / 2) as u64 <= stream {
+        return ALL_PARTS;
+    }
+    stream as usize * 2
+}
+
+// How many parts from one place up to another have blocks that wait.
+fn count(notes: &[u64; NOTES], from: usize, to: usize) -> u64 {
     let mut n: u64 = 0;
-    for k in 0..ALL_PARTS {
+    for k in from..to {
         if is_waiting(notes, k) {
             n += 1;
         }
@@ -29,11 +41,11 @@ fn one(out: &mut [u8], t: Text, first: bool, k: usize) -> Text {
 }
 
 // In the order of streams, the message before the trailer.
-fn list(out: &mut [u8], t: Text, notes: &[u64; NOTES]) -> Text {
+fn list(out: &mut [u8], t: Text, notes: &[u64; NOTES], from: usize, to: usize) -> Text {
     let mut a = t;
     let mut first = true;
-    let mut k: usize = 0;
-    while k < ALL_PARTS {
+    let mut k: usize = from;
+    while k < to {
         if !is_waiting(notes, k) {
             k += 1;
             continue;
@@ -45,7 +57,7 @@ fn list(out: &mut [u8], t: Text, notes: &[u64; NOTES]) -> Text {
     a
 }
 
-// The line of a start; none at the end, which is line 0.
+// The line of a call; none at the end, which is line 0.
 fn heading(out: &mut [u8], t: Text, line: u64) -> Text {
     if line == 0 {
         return print::words(out, t, b"still waiting: ");
@@ -53,19 +65,43 @@ fn heading(out: &mut [u8], t: Text, line: u64) -> Text {
     filled(out, t, b"line #: still waiting: ", [line, 0, 0, 0])
 }
 
-fn waiting_line(out: &mut [u8], t: Text, line: u64, notes: &[u64; NOTES]) -> Text {
-    let a = heading(out, t, line);
-    let b = list(out, a, notes);
-    end_line(out, b)
-}
-
-// Names and counts them, where there are any: at a start of the decoder with its line, at the end with 0.
-pub fn still_waiting(out: &mut [u8], log: Log, line: u64, notes: &[u64; NOTES]) -> Log {
-    let n = count(notes);
+// Names and counts those from one place up to another, where there are any.
+fn told(out: &mut [u8], log: Log, line: u64, notes: &[u64; NOTES], from: usize, to: usize) -> Log {
+    let n = count(notes, from, to);
     if n == 0 {
         return log;
     }
     let t = log.text;
-    let a = waiting_line(out, t, line, notes);
-    log.telling(Count::StillWaiting, n, a)
+    let a = heading(out, t, line);
+    let b = list(out, a, notes, from, to);
+    log.telling(Count::StillWaiting, n, end_line(out, b))
+}
+
+// All of them: at a start of the decoder with its line, at the end with 0.
+pub fn still_waiting(out: &mut [u8], log: Log, line: u64, notes: &[u64; NOTES]) -> Log {
+    told(out, log, line, notes, 0, ALL_PARTS)
+}
+
+// Those of a message, told as over at this line.
+pub fn waiting_message(
+    out: &mut [u8],
+    log: Log,
+    line: u64,
+    notes: &[u64; NOTES],
+    stream: u64,
+) -> Log {
+    let at = first_of(stream);
+    told(out, log, line, notes, at, at + 1)
+}
+
+// Those of a stream, told as ended at this line.
+pub fn waiting_stream(
+    out: &mut [u8],
+    log: Log,
+    line: u64,
+    notes: &[u64; NOTES],
+    stream: u64,
+) -> Log {
+    let at = first_of(stream);
+    told(out, log, line, notes, at, at + 2)
 }

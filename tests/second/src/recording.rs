@@ -51,6 +51,7 @@ pub fn line_of(step: &Step) -> String {
         DecoderStart { limit } => format!("decoder start {limit}"),
         DecoderRead { bytes } => format!("decoder read {}", hex(bytes)),
         DecoderBlock { stream, part, bytes, .. } => format!("decoder block {stream} {part} {}", hex(bytes)),
+        DecoderOver { stream } => format!("decoder over {stream}"),
         DecoderEnded { stream } => format!("decoder ended {stream}"),
         DecoderCollect { .. } => "decoder collect".to_string(),
         DecoderHold { index } => format!("decoder hold {index}"),
@@ -133,6 +134,7 @@ fn call_of(words: &[&str]) -> Option<Call> {
         ["decoder", "block", stream, part, what, ref rest @ ..] => {
             (DecoderBlock { stream: number(stream)?, part: number(part)?, bytes: bytes(what)?, room: ROOM }, rest)
         }
+        ["decoder", "over", stream] => (DecoderOver { stream: number(stream)? }, &[][..]),
         ["decoder", "ended", stream] => (DecoderEnded { stream: number(stream)? }, &[][..]),
         ["decoder", "collect", ref rest @ ..] => (DecoderCollect { room: ROOM }, rest),
         ["decoder", "hold", index] => (DecoderHold { index: number(index)? }, &[][..]),

@@ -78,7 +78,7 @@ module _ (L : Link) (a : FreedNote) (rest : List FreedNote) (h : L .unreadAcks �
     references = references-step (L .blocks) _ _ _ _ _ _ _ _ (λ q x. x) (λ q n i x u r. ack-reference q n i x r) (I .references);
   }
 
--- ---- the decoder's finished parts grow (a block answered "done", "ended")
+-- ---- the decoder's finished parts grow (a trailer block answered "done", "over", "ended")
 pub marks-invariant : (L : Link) (f : Marks) → ((q : StreamPart) → markedAt (L .decoder .finished) q ≡ true → markedAt f q ≡ true) → Invariant L
     → Invariant (withDecoder L (withMarks (L .decoder) f))
 marks-invariant L f mono I = record {

@@ -1,5 +1,5 @@
--- The answer to a block that is offered in turn: the four conclusions of the demand, from the invariant. Each slot that it names holds the entry
--- that was meant, or is empty and its insert is unread.
+-- The answer to a block that is offered while its part is unfinished: the four conclusions of the demand, from the invariant. Each slot that it
+-- names holds the entry that was meant, or is empty and its insert is unread.
 use mathlib.Core.Path.{_≡_, refl, sym, _∙_}
 use mathlib.Core.Logic.{_↔_, _⊎_, inl, inr}
 use Prim.Native.Nat.{ℕ, _≤_}
@@ -12,6 +12,7 @@ use Rattle.statics.specs.Table.{Entry}
 use Rattle.fields.specs.Form.{Field}
 use Rattle.model.specs.Parts.{Part, inTurn}
 use Rattle.model_laws.proofs.Tables.{nope}
+use Rattle.model_laws.proofs.Marks.{open-turn}
 use Rattle.model_laws.proofs.Slots.Machine.{markedAt, entryIn, DecoderSlots, Item, given, byIndex, byName, BlockAnswer, gives, waitsFor, outOfTurn}
 use Rattle.model_laws.proofs.Slots.Machine.{DecoderTables, addField, onEntry, entryField, fieldNamed, meaning, offer, NamesSlot, names-index}
 use Rattle.model_laws.proofs.Slots.Machine.{names-name, names-later}
@@ -135,17 +136,17 @@ in-turn D s p b h = pick-true (inTurn (D .finished) s p) (meaning (D .slots) b) 
 abbrev pub answerTo : Link → WrittenBlock → BlockAnswer
 answerTo L b = offer (L .decoder) (b .place .stream) (b .place .part) (asItems (b .items))
 
--- the four conclusions, for one block that is offered in turn
+-- the four conclusions, for one block whose part is unfinished
 pub record Conclusions (L : Link) (b : WrittenBlock) : Type 0 where
   pub no-fault : answerTo L b ≡ outOfTurn → ⊥
   pub right : (fs : List Field) → answerTo L b ≡ gives fs → fs ≡ fieldsOf (b .items)
   pub waits : Waiting (answerTo L b) ↔ ((i : ℕ) × WaitsAt (L .decoder .slots) (asItems (b .items)) i)
   pub prompt : NumbersAbove (b .before) (L .unread) → answerTo L b ≡ gives (fieldsOf (b .items))
 
-module _ (L : Link) (I : Invariant L) (b : WrittenBlock) (m : List·Memᴰ b (L .blocks)) (u : markedAt (L .decoder .finished) (b .place) ≡ false)
-    (its-turn : inTurn (L .decoder .finished) (b .place .stream) (b .place .part) ≡ true) where
+module _ (L : Link) (I : Invariant L) (b : WrittenBlock) (m : List·Memᴰ b (L .blocks)) (u : markedAt (L .decoder .finished) (b .place) ≡ false) where
   said : answerTo L b ≡ meaning (L .decoder .slots) (asItems (b .items))
-  said = in-turn (L .decoder) (b .place .stream) (b .place .part) (asItems (b .items)) its-turn
+  said = in-turn (L .decoder) (b .place .stream) (b .place .part) (asItems (b .items))
+      (open-turn (L .decoder .finished) (b .place .stream) (b .place .part) u)
 
   held-or-empty : (i : ℕ) (c : Entry) → Reference (L .encoderSlots) (L .decoder .slots) (L .unread) (b .place) (b .before) i c
       → HeldOrEmpty (L .decoder .slots) i c

@@ -33,29 +33,35 @@ block-requires c κs = search needs
 enum-told-4 : tie.Need-enum-told-4
 enum-told-4 c = search needs
 
-ended-requires : tie.Need-ended-requires
-ended-requires c κs = search needs
+over-requires : tie.Need-over-requires
+over-requires c κs = search needs
 
 enum-told-5 : tie.Need-enum-told-5
 enum-told-5 c = search needs
 
-collect-requires : tie.Need-collect-requires
-collect-requires c κs = search needs
+ended-requires : tie.Need-ended-requires
+ended-requires c κs = search needs
 
 enum-told-6 : tie.Need-enum-told-6
 enum-told-6 c = search needs
 
-enquire-requires : tie.Need-enquire-requires
-enquire-requires c κs = search needs
+collect-requires : tie.Need-collect-requires
+collect-requires c κs = search needs
 
 enum-told-7 : tie.Need-enum-told-7
 enum-told-7 c = search needs
 
-start-requires-2 : tie.Need-start-requires-2
-start-requires-2 c κs = search needs
+enquire-requires : tie.Need-enquire-requires
+enquire-requires c κs = search needs
 
 enum-told-8 : tie.Need-enum-told-8
 enum-told-8 c = search needs
+
+start-requires-2 : tie.Need-start-requires-2
+start-requires-2 c κs = search needs
+
+enum-told-9 : tie.Need-enum-told-9
+enum-told-9 c = search needs
 
 first-requires-2 : tie.Need-first-requires-2
 first-requires-2 c κs = search needs
@@ -66,20 +72,20 @@ behind-requires c κs = search needs
 insert-requires : tie.Need-insert-requires
 insert-requires c κs = search needs
 
-enum-told-9 : tie.Need-enum-told-9
-enum-told-9 c = search needs
+enum-told-10 : tie.Need-enum-told-10
+enum-told-10 c = search needs
 
 delete-requires : tie.Need-delete-requires
 delete-requires c κs = search needs
 
-enum-told-10 : tie.Need-enum-told-10
-enum-told-10 c = search needs
+enum-told-11 : tie.Need-enum-told-11
+enum-told-11 c = search needs
 
 block-requires-2 : tie.Need-block-requires-2
 block-requires-2 c κs = search needs
 
-enum-told-11 : tie.Need-enum-told-11
-enum-told-11 c = search needs
+enum-told-12 : tie.Need-enum-told-12
+enum-told-12 c = search needs
 
 acknowledge-requires : tie.Need-acknowledge-requires
 acknowledge-requires c κs = search needs
@@ -124,21 +130,21 @@ returns-4 : tie.Need-returns-4
 unfolding performedAs
 returns-4 c =
     let a = c .before .before .before .before .before .before .before .before .before .before .before .args in
-    let r = c .before .before .ended in
+    let r = c .before .before .over in
     cited (a .call) (a .bytes .now) (a .decoder .now) (a .encoder .now) (a .output .now) _ _ (c .before .before .before .before .enum-told4 .given .1) (c .before .before .before .before .before .before .first .ensures) (r .ensures .0, (r .ensures .1, (refl, refl)))
 
 same-length-6 : tie.Need-same-length-6
 same-length-6 c = search needs
 
-same-length-7 : tie.Need-same-length-7
-same-length-7 c = search needs
-
 returns-5 : tie.Need-returns-5
 unfolding performedAs
 returns-5 c =
-    let a = c .before .before .before .before .before .before .before .before .before .before .before .before .before .before .args in
-    let r = c .before .before .before .before .collect in
-    cited (a .call) (a .bytes .now) (a .decoder .now) (a .encoder .now) (a .output .now) _ _ (c .before .before .before .before .before .before .before .enum-told5 .given .1) (c .before .before .before .before .before .before .before .before .before .first .ensures) (r .ensures .0, (r .ensures .1 .0, (refl, r .ensures .1 .1)))
+    let a = c .before .before .before .before .before .before .before .before .before .before .before .args in
+    let r = c .before .before .ended in
+    cited (a .call) (a .bytes .now) (a .decoder .now) (a .encoder .now) (a .output .now) _ _ (c .before .before .before .before .enum-told5 .given .1) (c .before .before .before .before .before .before .first .ensures) (r .ensures .0, (r .ensures .1, (refl, refl)))
+
+same-length-7 : tie.Need-same-length-7
+same-length-7 c = search needs
 
 same-length-8 : tie.Need-same-length-8
 same-length-8 c = search needs
@@ -146,9 +152,9 @@ same-length-8 c = search needs
 returns-6 : tie.Need-returns-6
 unfolding performedAs
 returns-6 c =
-    let a = c .before .before .before .before .before .before .before .before .before .args in
-    let r = c .enquire in
-    cited (a .call) (a .bytes .now) (a .decoder .now) (a .encoder .now) (a .output .now) _ _ (c .before .before .enum-told6 .given .1) (c .before .before .before .before .first .ensures) (r .ensures, (refl, (refl, refl)))
+    let a = c .before .before .before .before .before .before .before .before .before .before .before .before .before .before .args in
+    let r = c .before .before .before .before .collect in
+    cited (a .call) (a .bytes .now) (a .decoder .now) (a .encoder .now) (a .output .now) _ _ (c .before .before .before .before .before .before .before .enum-told6 .given .1) (c .before .before .before .before .before .before .before .before .before .first .ensures) (r .ensures .0, (r .ensures .1 .0, (refl, r .ensures .1 .1)))
 
 same-length-9 : tie.Need-same-length-9
 same-length-9 c = search needs
@@ -156,50 +162,50 @@ same-length-9 c = search needs
 returns-7 : tie.Need-returns-7
 unfolding performedAs
 returns-7 c =
-    let a = c .before .before .before .before .before .before .before .before .before .before .before .args in
-    let r = c .before .before .start2 in
-    cited (a .call) (a .bytes .now) (a .decoder .now) (a .encoder .now) (a .output .now) _ _ (c .before .before .before .before .enum-told7 .given .1) (c .before .before .before .before .before .before .first .ensures) (r .ensures .0, (refl, (r .ensures .1, refl)))
+    let a = c .before .before .before .before .before .before .before .before .before .args in
+    let r = c .enquire in
+    cited (a .call) (a .bytes .now) (a .decoder .now) (a .encoder .now) (a .output .now) _ _ (c .before .before .enum-told7 .given .1) (c .before .before .before .before .first .ensures) (r .ensures, (refl, (refl, refl)))
 
 same-length-10 : tie.Need-same-length-10
 same-length-10 c = search needs
 
-same-length-11 : tie.Need-same-length-11
-same-length-11 c = search needs
-
 returns-8 : tie.Need-returns-8
 unfolding performedAs
 returns-8 c =
-    let a = c .before .before .before .before .before .before .before .before .before .before .before .before .before .before .before .before .args in
-    let r = c .before .before .before .before .insert in
-    let p = split-at (a .encoder .now) _ _ (c .before .before .before .before .before .before .before .before .before .before .before .first .result .now) (a .call .split) (a .output .now) (c .before .before .before .before .before .before .before .first2 .ensures) (c .before .before .before .before .before .before .behind .ensures) in
-    cited (a .call) (a .bytes .now) (a .decoder .now) (a .encoder .now) (a .output .now) _ _ (c .before .before .before .before .before .before .before .before .before .enum-told8 .given .1) (c .before .before .before .before .before .before .before .before .before .before .before .first .ensures)
-    (r .ensures .0 ∙ ap (λ (x : Result). x .answer) p, (refl, (r .ensures .1 .0 ∙ ap (λ (x : Result). x .memory) p, r .ensures .1 .1 ∙ ap (λ (x : Result). x .output) p)))
+    let a = c .before .before .before .before .before .before .before .before .before .before .before .args in
+    let r = c .before .before .start2 in
+    cited (a .call) (a .bytes .now) (a .decoder .now) (a .encoder .now) (a .output .now) _ _ (c .before .before .before .before .enum-told8 .given .1) (c .before .before .before .before .before .before .first .ensures) (r .ensures .0, (refl, (r .ensures .1, refl)))
+
+same-length-11 : tie.Need-same-length-11
+same-length-11 c = search needs
 
 same-length-12 : tie.Need-same-length-12
 same-length-12 c = search needs
 
-same-length-13 : tie.Need-same-length-13
-same-length-13 c = search needs
-
 returns-9 : tie.Need-returns-9
 unfolding performedAs
 returns-9 c =
-    let a = c .before .before .before .before .before .before .before .before .before .before .before .before .before .before .args in
-    let r = c .before .before .before .before .delete in
-    cited (a .call) (a .bytes .now) (a .decoder .now) (a .encoder .now) (a .output .now) _ _ (c .before .before .before .before .before .before .before .enum-told9 .given .1) (c .before .before .before .before .before .before .before .before .before .first .ensures) (r .ensures .0, (refl, (r .ensures .1 .0, r .ensures .1 .1)))
+    let a = c .before .before .before .before .before .before .before .before .before .before .before .before .before .before .before .before .args in
+    let r = c .before .before .before .before .insert in
+    let p = split-at (a .encoder .now) _ _ (c .before .before .before .before .before .before .before .before .before .before .before .first .result .now) (a .call .split) (a .output .now) (c .before .before .before .before .before .before .before .first2 .ensures) (c .before .before .before .before .before .before .behind .ensures) in
+    cited (a .call) (a .bytes .now) (a .decoder .now) (a .encoder .now) (a .output .now) _ _ (c .before .before .before .before .before .before .before .before .before .enum-told9 .given .1) (c .before .before .before .before .before .before .before .before .before .before .before .first .ensures)
+    (r .ensures .0 ∙ ap (λ (x : Result). x .answer) p, (refl, (r .ensures .1 .0 ∙ ap (λ (x : Result). x .memory) p, r .ensures .1 .1 ∙ ap (λ (x : Result). x .output) p)))
+
+same-length-13 : tie.Need-same-length-13
+same-length-13 c = search needs
 
 same-length-14 : tie.Need-same-length-14
 same-length-14 c = search needs
-
-same-length-15 : tie.Need-same-length-15
-same-length-15 c = search needs
 
 returns-10 : tie.Need-returns-10
 unfolding performedAs
 returns-10 c =
     let a = c .before .before .before .before .before .before .before .before .before .before .before .before .before .before .args in
-    let r = c .before .before .before .before .block2 in
+    let r = c .before .before .before .before .delete in
     cited (a .call) (a .bytes .now) (a .decoder .now) (a .encoder .now) (a .output .now) _ _ (c .before .before .before .before .before .before .before .enum-told10 .given .1) (c .before .before .before .before .before .before .before .before .before .first .ensures) (r .ensures .0, (refl, (r .ensures .1 .0, r .ensures .1 .1)))
+
+same-length-15 : tie.Need-same-length-15
+same-length-15 c = search needs
 
 same-length-16 : tie.Need-same-length-16
 same-length-16 c = search needs
@@ -207,9 +213,19 @@ same-length-16 c = search needs
 returns-11 : tie.Need-returns-11
 unfolding performedAs
 returns-11 c =
+    let a = c .before .before .before .before .before .before .before .before .before .before .before .before .before .before .args in
+    let r = c .before .before .before .before .block2 in
+    cited (a .call) (a .bytes .now) (a .decoder .now) (a .encoder .now) (a .output .now) _ _ (c .before .before .before .before .before .before .before .enum-told11 .given .1) (c .before .before .before .before .before .before .before .before .before .first .ensures) (r .ensures .0, (refl, (r .ensures .1 .0, r .ensures .1 .1)))
+
+same-length-17 : tie.Need-same-length-17
+same-length-17 c = search needs
+
+returns-12 : tie.Need-returns-12
+unfolding performedAs
+returns-12 c =
     let a = c .before .before .before .before .before .before .before .before .before .before .before .args in
     let r = c .before .before .acknowledge in
-    cited (a .call) (a .bytes .now) (a .decoder .now) (a .encoder .now) (a .output .now) _ _ (c .before .before .before .before .enum-told11 .given .1) (c .before .before .before .before .before .before .first .ensures) (r .ensures .0, (refl, (r .ensures .1, refl)))
+    cited (a .call) (a .bytes .now) (a .decoder .now) (a .encoder .now) (a .output .now) _ _ (c .before .before .before .before .enum-told12 .given .1) (c .before .before .before .before .before .before .first .ensures) (r .ensures .0, (refl, (r .ensures .1, refl)))
 
 pub perform-spec : {M : Type 1} → statement M
 perform-spec =
@@ -223,22 +239,24 @@ perform-spec =
     enum-told-3
     block-requires
     enum-told-4
-    ended-requires
+    over-requires
     enum-told-5
-    collect-requires
+    ended-requires
     enum-told-6
-    enquire-requires
+    collect-requires
     enum-told-7
-    start-requires-2
+    enquire-requires
     enum-told-8
+    start-requires-2
+    enum-told-9
     first-requires-2
     behind-requires
     insert-requires
-    enum-told-9
-    delete-requires
     enum-told-10
-    block-requires-2
+    delete-requires
     enum-told-11
+    block-requires-2
+    enum-told-12
     acknowledge-requires
     same-length
     returns
@@ -250,20 +268,22 @@ perform-spec =
     same-length-5
     returns-4
     same-length-6
-    same-length-7
     returns-5
+    same-length-7
     same-length-8
     returns-6
     same-length-9
     returns-7
     same-length-10
-    same-length-11
     returns-8
+    same-length-11
     same-length-12
-    same-length-13
     returns-9
+    same-length-13
     same-length-14
-    same-length-15
     returns-10
+    same-length-15
     same-length-16
-    returns-11)
+    returns-11
+    same-length-17
+    returns-12)

@@ -9,6 +9,7 @@ extern "C" {
     fn kolowrotan_decoder_start();
     fn kolowrotan_decoder_read();
     fn kolowrotan_decoder_block();
+    fn kolowrotan_decoder_over();
     fn kolowrotan_decoder_ended();
     fn kolowrotan_decoder_hold();
     fn kolowrotan_decoder_collect();
@@ -133,6 +134,7 @@ impl Library {
             DecoderStart { limit } => (kolowrotan_decoder_start, vec![memory, [limit, 0]]),
             DecoderRead { .. } => (kolowrotan_decoder_read, vec![memory, bytes]),
             DecoderBlock { stream, part, .. } => (kolowrotan_decoder_block, vec![memory, [stream, part], bytes, output]),
+            DecoderOver { stream } => (kolowrotan_decoder_over, vec![memory, [stream, 0]]),
             DecoderEnded { stream } => (kolowrotan_decoder_ended, vec![memory, [stream, 0]]),
             DecoderCollect { .. } => (kolowrotan_decoder_collect, vec![memory, output]),
             DecoderHold { index } => (kolowrotan_decoder_hold, vec![memory, [index, 0]]),

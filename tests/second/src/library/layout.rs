@@ -35,8 +35,8 @@ struct Row {
 struct Front {
     limit: u64,
     deletes: usize,
-    /// Set where a part is over: finished at the decoder, written at the encoder.
-    over: Parts,
+    /// The parts that take no more blocks: finished at the decoder, closed at the encoder.
+    closed: Parts,
     rows: Vec<Row>,
 }
 
@@ -56,10 +56,10 @@ fn lay_front(memory: &mut [u8], role: u64, front: &Front) {
     put(memory, 6, 2, front.rows.len() as u64);
     put(memory, 8, 2, front.deletes as u64);
     memory[10..MARKS].fill(0);
-    let over = front.over.0.iter().flatten();
+    let closed = front.closed.0.iter().flatten();
     let marks = &mut memory[MARKS..ROWS];
     marks.fill(0xff);
-    for (number, _) in over.enumerate().filter(|(_, &over)| over) {
+    for (number, _) in closed.enumerate().filter(|(_, &closed)| closed) {
         marks[number / 8] &= !(1 << (number % 8));
     }
     let mut offset = 0;
@@ -102,8 +102,8 @@ fn front_in(memory: &[u8], role: u64, highest: u64) -> Option<Front> {
         rows.push(Row { index, entry: Entry { name: name.to_vec(), value: value.to_vec() }, status: get(memory, at + 10, 2) });
         (least, offset) = (index + 1, offset + text.len() as u64);
     }
-    let over = [0, 1].map(|part| (0..4096).map(|stream| memory[MARKS + 512 * part + stream / 8] >> (stream % 8) & 1 == 0).collect());
-    let front = Front { limit, deletes: get(memory, 8, 2) as usize, over: Parts(over), rows };
+    let closed = [0, 1].map(|part| (0..4096).map(|stream| memory[MARKS + 512 * part + stream / 8] >> (stream % 8) & 1 == 0).collect());
+    let front = Front { limit, deletes: get(memory, 8, 2) as usize, closed: Parts(closed), rows };
     (sum == held).then_some(front)
 }
 
@@ -112,7 +112,7 @@ pub fn lay_decoder(memory: &mut [u8], decoder: &Decoder) {
     let row =
         |(&index, entry): (&u64, &Entry)| Row { index, entry: entry.clone(), status: place(index).map_or(0, |place| place as u64 + 1) };
     let rows = decoder.entries.iter().map(row).collect();
-    let front = Front { limit: decoder.limit, deletes: decoder.deletes.len(), over: decoder.finished.clone(), rows };
+    let front = Front { limit: decoder.limit, deletes: decoder.deletes.len(), closed: decoder.finished.clone(), rows };
     lay_front(memory, 1, &front);
     for (place, delete) in decoder.deletes.iter().enumerate() {
         let at = DELETES + DELETE * place;
@@ -160,13 +160,13 @@ pub fn decoder_in(memory: &[u8]) -> Option<Decoder> {
         return None;
     }
     let entries = front.rows.into_iter().map(|row| (row.index, row.entry)).collect();
-    Some(Decoder { limit: front.limit, entries, deletes, finished: front.over })
+    Some(Decoder { limit: front.limit, entries, deletes, finished: front.closed })
 }
 
 pub fn lay_encoder(memory: &mut [u8], encoder: &Encoder) {
     let row = |(&index, held): (&u64, &Held)| Row { index, entry: held.entry.clone(), status: u64::from(held.deleting) };
     let rows = encoder.entries.iter().map(row).collect();
-    lay_front(memory, 2, &Front { limit: encoder.limit, deletes: 0, over: encoder.written.clone(), rows });
+    lay_front(memory, 2, &Front { limit: encoder.limit, deletes: 0, closed: encoder.closed.clone(), rows });
     for (&index, held) in &encoder.entries {
         let at = REFERENCES + REFERENCE * (index - 62) as usize;
         put(memory, at, 2, held.horizon(0));
@@ -190,7 +190,7 @@ pub fn encoder_in(memory: &[u8]) -> Option<Encoder> {
         let references = horizons.map(|horizon| BTreeSet::from_iter(horizon.checked_sub(1)));
         entries.insert(row.index, Held { entry: row.entry, deleting: row.status == 1, references });
     }
-    (front.deletes == 0).then_some(Encoder { limit: front.limit, entries, written: front.over })
+    (front.deletes == 0).then_some(Encoder { limit: front.limit, entries, closed: front.closed })
 }
 
 /// Whether two encoders are the same as far as memory keeps them: of the referring streams, the horizons.
@@ -199,5 +199,5 @@ pub fn same_encoder(one: &Encoder, other: &Encoder) -> bool {
         let row = |(&index, held): (&u64, &Held)| (index, held.entry.clone(), held.deleting, [held.horizon(0), held.horizon(1)]);
         encoder.entries.iter().map(row).collect()
     };
-    one.limit == other.limit && one.written == other.written && kept(one) == kept(other)
+    one.limit == other.limit && one.closed == other.closed && kept(one) == kept(other)
 }

@@ -1,7 +1,10 @@
-//! How often each call got each answer, how full the tables were, and how near blocks came to their bound: a run that reaches little would
-//! prove little.
+//! How often each call got each answer, how full the tables were, which blocks messages had, and how near blocks came to their bound: a run
+//! that reaches little would prove little.
+use std::collections::BTreeSet;
+
 use super::room::Reached;
 use crate::program::call::{Call, Outcome, Second};
+use crate::program::instructions::STREAMS;
 
 /// One more than the highest number of the table of answers.
 const ANSWERS: usize = 20;
@@ -10,10 +13,11 @@ const ENTRIES_MOST: usize = 128;
 
 /// Every call with the answers that the papers let it give. 4 and 15 are given by none: packed strings are read, and where 128 entries are
 /// held the next one passes the limit, which is 7.
-const REACHABLE: [(&str, &[u8]); 11] = [
+const REACHABLE: [(&str, &[u8]); 12] = [
     ("decoder start", &[0, 7, 12]),
     ("decoder read", &[0, 2, 3, 5, 6, 7, 8, 9, 13, 14, 17, 18, 19]),
     ("decoder block", &[0, 1, 2, 3, 5, 11, 12, 13, 17, 18, 19]),
+    ("decoder over", &[0, 11, 17]),
     ("decoder ended", &[0, 11, 17]),
     ("decoder collect", &[0, 12, 17]),
     ("decoder hold", &[0, 5, 8, 10, 17]),
@@ -33,6 +37,49 @@ pub struct Tally {
     full: [u64; 2],
     /// The blocks at the bound of document 02, those of them with its numbers, and those with the most bytes of a block.
     bound: [u64; 3],
+    messages: [Messages; 2],
+}
+
+/// The blocks of messages at an end.
+#[derive(Clone, Debug, Default)]
+struct Messages {
+    /// The streams on which a non-trailer block was done since the last start.
+    begun: BTreeSet<u64>,
+    /// Non-trailer blocks that were done where their stream had one before, and trailers where it had none.
+    further: u64,
+    alone: u64,
+    /// Blocks of a stream and a part that exist, refused with 11: their part takes no more.
+    late: [u64; 2],
+}
+
+impl Messages {
+    fn count(&mut self, stream: u64, part: u64, answer: u8) {
+        match (answer, part) {
+            (0, 0) => self.further += u64::from(!self.begun.insert(stream)),
+            (0, _) => self.alone += u64::from(!self.begun.contains(&stream)),
+            (11, 0 | 1) if stream < STREAMS => self.late[part as usize] += 1,
+            _ => (),
+        }
+    }
+
+    fn add(&mut self, other: &Messages) {
+        self.further += other.further;
+        self.alone += other.alone;
+        self.late.iter_mut().zip(other.late).for_each(|(count, more)| *count += more);
+    }
+
+    fn line(&self, end: &str) -> String {
+        let Messages { further, alone, late, .. } = self;
+        format!(
+            "{end}: {further} further non-trailer blocks, {alone} trailers alone; refused on a part that takes no more: {} and {}",
+            late[0], late[1]
+        )
+    }
+
+    /// Whether there was one of each.
+    fn all(&self) -> bool {
+        self.further > 0 && self.alone > 0 && !self.late.contains(&0)
+    }
 }
 
 fn place(call: &Call) -> usize {
@@ -41,14 +88,15 @@ fn place(call: &Call) -> usize {
         DecoderStart { .. } => 0,
         DecoderRead { .. } => 1,
         DecoderBlock { .. } => 2,
-        DecoderEnded { .. } => 3,
-        DecoderCollect { .. } => 4,
-        DecoderHold { .. } => 5,
-        EncoderStart { .. } => 6,
-        EncoderInsert { .. } => 7,
-        EncoderDelete { .. } => 8,
-        EncoderBlock { .. } => 9,
-        EncoderAcknowledge { .. } => 10,
+        DecoderOver { .. } => 3,
+        DecoderEnded { .. } => 4,
+        DecoderCollect { .. } => 5,
+        DecoderHold { .. } => 6,
+        EncoderStart { .. } => 7,
+        EncoderInsert { .. } => 8,
+        EncoderDelete { .. } => 9,
+        EncoderBlock { .. } => 10,
+        EncoderAcknowledge { .. } => 11,
     }
 }
 
@@ -60,6 +108,14 @@ impl Tally {
         let inserts = [matches!(call, Call::DecoderRead { .. }), matches!(call, Call::EncoderInsert { .. })];
         for (end, full) in self.full.iter_mut().enumerate() {
             *full += u64::from(inserts[end] && held[end] == ENTRIES_MOST && outcome.answer == 7);
+        }
+        let messages = &mut self.messages[call.end() as usize];
+        match call {
+            Call::DecoderBlock { stream, part, .. } | Call::EncoderBlock { stream, part, .. } => {
+                messages.count(*stream, *part, outcome.answer)
+            }
+            Call::DecoderStart { .. } | Call::EncoderStart { .. } if outcome.done() => messages.begun.clear(),
+            _ => (),
         }
     }
 
@@ -78,6 +134,7 @@ impl Tally {
         self.most = [self.most[0].max(other.most[0]), self.most[1].max(other.most[1])];
         self.full.iter_mut().zip(other.full).for_each(|(count, more)| *count += more);
         self.bound.iter_mut().zip(other.bound).for_each(|(count, more)| *count += more);
+        self.messages.iter_mut().zip(&other.messages).for_each(|(messages, more)| messages.add(more));
     }
 
     pub fn calls(&self) -> u64 {
@@ -94,13 +151,15 @@ impl Tally {
             REACHABLE.iter().zip(&self.counts).map(|((name, _), row)| format!("{name:20}{}", given(row))).collect();
         lines.push(format!("most entries held: {} at the decoder, {} at the encoder", self.most[0], self.most[1]));
         lines.push(format!("inserts refused with 7 beside 128 entries: {} at the decoder, {} at the encoder", self.full[0], self.full[1]));
+        lines.extend(["decoder", "encoder"].into_iter().zip(&self.messages).map(|(end, messages)| messages.line(end)));
         let [bound, closed, most] = self.bound;
         lines
             .push(format!("blocks at their bound: {bound}, of them 259 bytes for 257 of list: {closed}; at 16,384 bytes below it: {most}"));
         lines
     }
 
-    /// Answers that a call never gave although it can, or gave although it cannot, tables that never filled, and a bound never reached.
+    /// Answers that a call never gave although it can, or gave although it cannot, tables that never filled, messages that never came, and
+    /// a bound never reached.
     pub fn missed(&self) -> Vec<String> {
         let mut missed = Vec::new();
         for ((name, answers), row) in REACHABLE.iter().zip(&self.counts) {
@@ -111,6 +170,9 @@ impl Tally {
         }
         if self.most != [ENTRIES_MOST; 2] || self.full.contains(&0) {
             missed.push("128 entries were not held at both ends, or no insert was refused beside them".to_string());
+        }
+        if !self.messages.iter().all(Messages::all) {
+            missed.push("no further non-trailer block, no trailer alone, or no block on a part that takes no more".to_string());
         }
         if self.bound[0] == 0 || self.bound[1] == 0 {
             missed.push("no block was as long as its bound, or none of 259 bytes for a list of 257".to_string());

@@ -15,6 +15,7 @@ pub enum Call {
     DecoderStart { limit: u64 },
     DecoderRead { bytes: Vec<u8> },
     DecoderBlock { stream: u64, part: u64, bytes: Vec<u8>, room: usize },
+    DecoderOver { stream: u64 },
     DecoderEnded { stream: u64 },
     DecoderCollect { room: usize },
     DecoderHold { index: u64 },
@@ -54,7 +55,7 @@ impl Call {
         use Call::*;
         match self {
             DecoderStart { .. } | DecoderRead { .. } | DecoderBlock { .. } => End::Decoder,
-            DecoderEnded { .. } | DecoderCollect { .. } | DecoderHold { .. } => End::Decoder,
+            DecoderOver { .. } | DecoderEnded { .. } | DecoderCollect { .. } | DecoderHold { .. } => End::Decoder,
             EncoderStart { .. } | EncoderInsert { .. } | EncoderDelete { .. } => End::Encoder,
             EncoderBlock { .. } | EncoderAcknowledge { .. } => End::Encoder,
         }
@@ -109,6 +110,7 @@ impl Second {
         match call {
             Call::DecoderRead { bytes } => decoder.read(bytes),
             Call::DecoderBlock { stream, part, bytes, room } => decoder.block(*stream, *part, bytes, *room),
+            Call::DecoderOver { stream } => decoder.over(*stream),
             Call::DecoderEnded { stream } => decoder.ended(*stream),
             Call::DecoderCollect { room } => decoder.collect(*room),
             Call::DecoderHold { index } => decoder.hold(*index),

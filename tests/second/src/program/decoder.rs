@@ -88,7 +88,7 @@ impl Decoder {
         }
         let fields: Vec<Field> = block.into_iter().map(|representation| self.field(representation)).collect();
         let done = Done::writing(list_of(&fields), room)?;
-        self.finished.add(part, stream);
+        self.finished.done(part, stream);
         Ok(done)
     }
 
@@ -103,6 +103,12 @@ impl Decoder {
             Representation::Literal { never, name: Name::Index(index), value } => Field { never, name: at(index).0.to_vec(), value },
             Representation::Literal { never, name: Name::Text(name), value } => Field { never, name, value },
         }
+    }
+
+    pub fn over(&mut self, stream: u64) -> Answer<Done> {
+        refuse_if(stream >= STREAMS, 11)?;
+        self.finished.add(0, stream);
+        Ok(Done::default())
     }
 
     pub fn ended(&mut self, stream: u64) -> Answer<Done> {

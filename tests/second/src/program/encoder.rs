@@ -27,13 +27,13 @@ impl Held {
 pub struct Encoder {
     pub limit: u64,
     pub entries: BTreeMap<u64, Held>,
-    pub written: Parts,
+    pub closed: Parts,
 }
 
 impl Encoder {
     pub fn start(limit: u64) -> Answer<Encoder> {
         refuse_if(limit > LIMIT_MOST, 7)?;
-        Ok(Encoder { limit, entries: BTreeMap::new(), written: Parts::none() })
+        Ok(Encoder { limit, entries: BTreeMap::new(), closed: Parts::none() })
     }
 
     /// The sizes of all entries, those under deletion included.
@@ -66,7 +66,7 @@ impl Encoder {
     }
 
     pub fn block(&mut self, stream: u64, part: u64, list: &[u8], room: usize) -> Answer<Done> {
-        let part = self.written.in_turn(stream, part)?;
+        let part = self.closed.in_turn(stream, part)?;
         let fields = fields_of(list)?;
         let block: Vec<Representation> = fields.into_iter().map(|field| self.representation(field)).collect();
         let done = Done::writing(blocks::written(&block)?, room)?;
@@ -74,7 +74,7 @@ impl Encoder {
             let held = self.entries.get_mut(&index).expect("only held entries are referred to");
             held.references[part].insert(stream);
         }
-        self.written.add(part, stream);
+        self.closed.done(part, stream);
         Ok(done)
     }
 

@@ -1,6 +1,6 @@
 //! What the two tables have in common: entries, their sizes, the parts of streams, and what a call says.
 use super::instructions::STREAMS;
-use super::wire::{refuse, refuse_if, Answer};
+use super::wire::{refuse_if, Answer};
 
 /// The highest limit. An entry has size 32 at least, so a table has 128 entries at most.
 pub const LIMIT_MOST: u64 = 4096;
@@ -38,7 +38,7 @@ impl Entry {
     }
 }
 
-/// A bit for each stream, for non-trailer parts and for trailer parts.
+/// The parts that take no more blocks: a bit for each stream, for non-trailer parts and for trailer parts.
 #[derive(Clone, Debug, PartialEq, Eq)]
 pub struct Parts(pub [Vec<bool>; 2]);
 
@@ -55,13 +55,19 @@ impl Parts {
         self.0[part][stream as usize] = true;
     }
 
-    /// The part that a block may come in: its own not over, and a trailer only after its non-trailer part.
+    /// A block of a part was done: a trailer closes both parts of its stream, and a non-trailer block nothing, since others may follow.
+    pub fn done(&mut self, part: usize, stream: u64) {
+        if part == 1 {
+            self.add(0, stream);
+            self.add(1, stream);
+        }
+    }
+
+    /// The part that a block may come in: its own not closed. A trailer may come while the non-trailer part is open.
     pub fn in_turn(&self, stream: u64, part: u64) -> Answer<usize> {
         refuse_if(stream >= STREAMS || part > 1, 11)?;
         let part = part as usize;
-        if self.has(part, stream) || (part == 1 && !self.has(0, stream)) {
-            return refuse(11);
-        }
+        refuse_if(self.has(part, stream), 11)?;
         Ok(part)
     }
 }

@@ -71,9 +71,38 @@ impl History {
         }
     }
 
-    /// A block was decoded, or its stream was told as ended.
-    pub fn finish(&mut self, part: usize, stream: u64) {
-        self.finished.add(part, stream);
+    /// A block was decoded: after a trailer none of its stream is taken, after another one any is.
+    pub fn decoded(&mut self, stream: u64, part: u64) {
+        if part == 1 {
+            self.ended(stream);
+        }
+    }
+
+    /// The non-trailer part was told as over.
+    pub fn over(&mut self, stream: u64) {
+        self.finished.add(0, stream);
+    }
+
+    /// The stream was told as ended.
+    pub fn ended(&mut self, stream: u64) {
+        self.finished.add(0, stream);
+        self.finished.add(1, stream);
+    }
+
+    /// Offers empty blocks, which were not written: each is taken exactly when its part is not finished by calls and answers. The link's
+    /// rules are not kept from then on.
+    pub fn try_all(&mut self, streams: BTreeSet<u64>, bench: &mut Bench) -> Ran<()> {
+        for (stream, part) in streams.into_iter().flat_map(|stream| [(stream, 0), (stream, 0), (stream, 1), (stream, 0), (stream, 1)]) {
+            let taken = !self.finished.has(part as usize, stream);
+            let outcome = bench.call(Call::DecoderBlock { stream, part, bytes: Vec::new(), room: 0 })?;
+            if outcome.answer != if taken { 0 } else { 11 } {
+                return bench.broken(format!("part {part} of stream {stream} takes blocks by calls and answers: {taken}"));
+            }
+            if taken {
+                self.decoded(stream, part);
+            }
+        }
+        Ok(())
     }
 
     /// The streams with a part that a deletion names and in which a block could still be accepted.

@@ -98,8 +98,11 @@ fn argument(random: &mut Random, held: &[u64]) -> u64 {
     }
 }
 
-/// Any call.
+/// Any call, now and then the last one again: a block that comes twice, or an "over" that does.
 pub fn call(random: &mut Random, bench: &Bench, words: &Words, streams: u64) -> Call {
+    if let (Some(Step::Call(call)), true) = (bench.steps.last(), random.percent(3)) {
+        return call.clone();
+    }
     let [at_decoder, at_encoder] = wild::held(&bench.second);
     let made = |random: &mut Random, mut bytes: Vec<u8>| {
         if random.percent(12) {
@@ -125,7 +128,8 @@ pub fn call(random: &mut Random, bench: &Bench, words: &Words, streams: u64) -> 
             let (stream, part) = stream_and_part(random, bench.second.decoder.as_ref().map(|end| &end.finished), streams);
             Call::DecoderBlock { stream, part, bytes: made(random, bytes), room }
         }
-        450..=499 => Call::DecoderEnded { stream: stream(random, streams) },
+        450..=479 => Call::DecoderEnded { stream: stream(random, streams) },
+        480..=499 => Call::DecoderOver { stream: stream(random, streams) },
         500..=559 => Call::DecoderHold { index: argument(random, &at_decoder) },
         560..=619 => Call::DecoderCollect { room },
         620..=719 => {
@@ -137,7 +141,7 @@ pub fn call(random: &mut Random, bench: &Bench, words: &Words, streams: u64) -> 
         720..=789 => Call::EncoderDelete { index: argument(random, &at_encoder), room },
         790..=939 => {
             let list = wild::list(random, words);
-            let (stream, part) = stream_and_part(random, bench.second.encoder.as_ref().map(|end| &end.written), streams);
+            let (stream, part) = stream_and_part(random, bench.second.encoder.as_ref().map(|end| &end.closed), streams);
             Call::EncoderBlock { stream, part, list: made(random, list), room }
         }
         _ => {

@@ -1,4 +1,5 @@
-//! A link that keeps document 01's rules. Demand 3 is checked as it goes, from what was called and answered.
+//! A link that keeps the rules of document 01, and those of document 02 for trailers and "over". Demand 3 is checked as it goes, from what
+//! was called and answered.
 use super::channel::Channel;
 use super::claims::{self, Block};
 use super::history::History;
@@ -31,6 +32,7 @@ enum Act {
     Write,
     Read,
     Offer,
+    Over,
     End,
     Reset,
     Collect,
@@ -40,12 +42,13 @@ enum Act {
 }
 
 /// How often each act comes in busy times, in which tables fill, and in quiet ones, in which everything arrives.
-const WEIGHTS: [(Act, [u64; 2]); 11] = [
+const WEIGHTS: [(Act, [u64; 2]); 12] = [
     (Act::Insert, [20, 1]),
     (Act::Delete, [8, 4]),
     (Act::Write, [22, 2]),
     (Act::Read, [10, 30]),
     (Act::Offer, [14, 30]),
+    (Act::Over, [3, 12]),
     (Act::End, [4, 20]),
     (Act::Reset, [3, 2]),
     (Act::Collect, [4, 12]),
@@ -70,7 +73,12 @@ pub fn run(kind: Kind, style: Style, mut random: Random, calls: usize, bench: &m
             link.act(quiet)?;
         }
     }
-    link.history.ask_all(link.bench)
+    link.history.ask_all(link.bench)?;
+    if kind == Kind::Refused {
+        let streams = link.streams.some_of_all(&mut link.random);
+        link.history.try_all(streams, link.bench)?;
+    }
+    Ok(())
 }
 
 impl Link<'_, '_> {
@@ -87,6 +95,7 @@ impl Link<'_, '_> {
             Act::Write => self.write(),
             Act::Read => self.read(),
             Act::Offer => self.offer(),
+            Act::Over => self.over(),
             Act::End => self.end(),
             Act::Reset => self.reset(),
             Act::Collect => self.collect(),
@@ -134,11 +143,15 @@ impl Link<'_, '_> {
             return Ok(());
         };
         let list = self.words.list(&mut self.random);
-        let room = self.room();
-        let outcome = self.bench.call(Call::EncoderBlock { stream, part, list: list.clone(), room })?;
-        if outcome.done() {
-            self.streams.wrote(stream, part);
-            self.blocks.push(Block { stream, part, bytes: outcome.output, list, after: self.management.written });
+        // Two equal blocks of a stream are two.
+        let times = if part == 0 && self.random.percent(12) { 2 } else { 1 };
+        for _ in 0..times {
+            let room = self.room();
+            let outcome = self.bench.call(Call::EncoderBlock { stream, part, list: list.clone(), room })?;
+            if outcome.done() {
+                self.streams.wrote(stream, part);
+                self.blocks.push(Block { stream, part, bytes: outcome.output, list: list.clone(), after: self.management.written });
+            }
         }
         Ok(())
     }
@@ -189,8 +202,18 @@ impl Link<'_, '_> {
         if outcome.done() {
             self.blocks.swap_remove(place);
             self.streams.decoded(stream, part);
-            self.history.finish(part as usize, stream);
+            self.history.decoded(stream, part);
         }
+        Ok(())
+    }
+
+    fn over(&mut self) -> Ran<()> {
+        let Some(stream) = self.streams.next_to_say_over(&mut self.random) else {
+            return Ok(());
+        };
+        self.bench.call(Call::DecoderOver { stream })?;
+        self.streams.said_over(stream);
+        self.history.over(stream);
         Ok(())
     }
 
@@ -200,8 +223,7 @@ impl Link<'_, '_> {
         };
         self.bench.call(Call::DecoderEnded { stream })?;
         self.streams.ended(stream);
-        self.history.finish(0, stream);
-        self.history.finish(1, stream);
+        self.history.ended(stream);
         Ok(())
     }
 

@@ -105,7 +105,7 @@ fn some_encoder(random: &mut Random) -> Encoder {
         let references = [0, 1].map(|_| BTreeSet::from_iter(random.below(6000).checked_sub(1).filter(|&stream| stream < STREAMS)));
         entries.insert(index, Held { entry, deleting: random.percent(often), references });
     }
-    let mut encoder = Encoder { limit: 0, entries, written: parts(random) };
+    let mut encoder = Encoder { limit: 0, entries, closed: parts(random) };
     encoder.limit = some_limit(random, encoder.held());
     encoder
 }

@@ -18,7 +18,7 @@ use words::{Style, STYLES};
 
 #[derive(Clone, Copy, Debug, PartialEq, Eq)]
 pub enum Kind {
-    /// A link that keeps document 01's rules, streams in any order.
+    /// A link that keeps the rules of documents 01 and 02, streams in any order.
     Rules,
     /// The same with streams that are reset or lost whole.
     Resets,

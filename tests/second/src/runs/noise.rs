@@ -1,6 +1,7 @@
 //! Calls that must be refused whatever the state is, or in the state that is given.
 use crate::program::call::{Call, Second};
 use crate::program::instructions::{self, Instruction, Name, StreamList, STREAMS};
+use crate::program::tables::Parts;
 use crate::program::wire::LARGEST;
 use crate::random::Random;
 use crate::recording::ROOM;
@@ -28,11 +29,19 @@ pub fn call(random: &mut Random, second: &Second) -> Call {
     }
 }
 
+/// A stream and a part that takes no more blocks, or a stream that is none.
+fn late(random: &mut Random, closed: Option<&Parts>) -> (u64, u64) {
+    let part = random.below(2);
+    let streams: Vec<u64> = (0..STREAMS).filter(|&stream| closed.is_some_and(|closed| closed.has(part as usize, stream))).collect();
+    let stream = if streams.is_empty() { no_stream(random) } else { *random.pick(&streams) };
+    (stream, part)
+}
+
 fn at_decoder(random: &mut Random, second: &Second) -> Call {
     let stream = random.below(STREAMS);
     let part = random.below(2);
     let block = |stream, part, bytes: Vec<u8>| Call::DecoderBlock { stream, part, bytes, room: ROOM };
-    match random.below(10) {
+    match random.below(12) {
         0 => Call::DecoderStart { limit: no_limit(random) },
         1 => Call::DecoderRead {
             bytes: random
@@ -79,6 +88,11 @@ fn at_decoder(random: &mut Random, second: &Second) -> Call {
         5 => block(stream, part, vec![0x82]).with_room(random.below(13) as usize),
         6 if random.percent(10) => block(stream, part, vec![0x82; 16_385]),
         6 => Call::DecoderEnded { stream: no_stream(random) },
+        10 => Call::DecoderOver { stream: no_stream(random) },
+        11 => {
+            let (stream, part) = late(random, second.decoder.as_ref().map(|decoder| &decoder.finished));
+            block(stream, part, vec![0x82])
+        }
         7 => Call::DecoderHold { index: no_index(random) },
         8 => Call::DecoderRead { bytes: no_insert(random, second) },
         _ => Call::DecoderRead { bytes: no_delete(random, second) },
@@ -112,7 +126,7 @@ fn at_encoder(random: &mut Random, second: &Second) -> Call {
         .iter()
         .flat_map(|encoder| encoder.entries.iter().filter(|(_, held)| held.deleting).map(|(&index, _)| index))
         .collect();
-    match random.below(10) {
+    match random.below(11) {
         0 => Call::EncoderStart { limit: no_limit(random) },
         1 => Call::EncoderInsert { name: vec![b'n'; random.between(0, 256) as usize], value: vec![b'v'; 2048], room: ROOM },
         2 => Call::EncoderInsert { name: vec![b'n'; 256], value: Vec::new(), room: ROOM },
@@ -123,6 +137,10 @@ fn at_encoder(random: &mut Random, second: &Second) -> Call {
         6 => block(no_stream(random), part, Vec::new()),
         7 => block(stream, 2 + random.below(300), Vec::new()),
         8 => block(stream, part, random.pick(&[&[2][..], &[0], &[0, 1], &[0, 0x80, 0], &[0, 0xff, 0x80], &[1, 0, 0x80, 0x10]]).to_vec()),
+        9 => {
+            let (stream, part) = late(random, second.encoder.as_ref().map(|encoder| &encoder.closed));
+            block(stream, part, Vec::new())
+        }
         _ => Call::EncoderAcknowledge {
             bytes: random
                 .pick(&[

@@ -1,22 +1,39 @@
 //! The streams of a link: in which order they are used, and what the host knows of those that are open.
-use std::collections::BTreeMap;
+use std::collections::{BTreeMap, BTreeSet};
 
 use crate::program::instructions::STREAMS;
 use crate::random::Random;
 
 /// A stream that was not told as ended.
 #[derive(Default)]
-pub struct Stream {
-    /// Whether the block of each part was written, and decoded.
-    pub written: [bool; 2],
-    pub decoded: [bool; 2],
-    pub reset: bool,
+struct Stream {
+    /// How many blocks of each part were written, and decoded.
+    written: [usize; 2],
+    decoded: [usize; 2],
+    reset: bool,
+    /// Its non-trailer part was told as over, not after a reset: by the rules no further block of it is ever written.
+    over: bool,
 }
+
+impl Stream {
+    /// Whether a further non-trailer block may be written: no trailer has closed the part.
+    fn takes_more(&self) -> bool {
+        self.written[1] == 0 && !self.over
+    }
+
+    /// Whether every non-trailer block that was written was decoded.
+    fn heard(&self) -> bool {
+        self.written[0] == self.decoded[0]
+    }
+}
+
+/// As many streams are asked about at a run's end.
+const SOME: usize = 24;
 
 pub struct Streams {
     /// Those not used yet, the next one last.
     plan: Vec<u64>,
-    pub open: BTreeMap<u64, Stream>,
+    open: BTreeMap<u64, Stream>,
     ended: Vec<u64>,
 }
 
@@ -25,26 +42,52 @@ impl Streams {
         Streams { plan: plan(random), open: BTreeMap::new(), ended: Vec::new() }
     }
 
-    /// Where to write a block: the trailer of an open stream, or the non-trailer part of a new one.
+    /// Where to write a block: on an open stream its trailer or a further non-trailer block, or on a new one, now and then a trailer alone.
     pub fn next_to_write(&mut self, random: &mut Random) -> Option<(u64, u64)> {
-        let trailer = self.some(random, |stream| stream.written == [true, false]).filter(|_| random.percent(25));
-        trailer.map(|stream| (stream, 1)).or_else(|| self.plan.last().map(|&stream| (stream, 0)))
+        let open = match random.below(20) {
+            0..=4 => self.some(random, |stream| stream.written[1] == 0).map(|stream| (stream, 1)),
+            5..=10 => self.some(random, Stream::takes_more).map(|stream| (stream, 0)),
+            _ => None,
+        };
+        let part = u64::from(random.percent(5));
+        open.or_else(|| self.plan.last().map(|&stream| (stream, part)))
     }
 
     pub fn wrote(&mut self, stream: u64, part: u64) {
-        if part == 0 {
-            self.plan.pop();
-        }
-        self.open.entry(stream).or_default().written[part as usize] = true;
+        self.opened(stream).written[part as usize] += 1;
     }
 
-    /// Whether a block may be offered: its stream brings something, and a trailer's non-trailer block was decoded.
+    /// The stream, which is open from now on.
+    fn opened(&mut self, stream: u64) -> &mut Stream {
+        self.plan.pop_if(|next| *next == stream);
+        self.open.entry(stream).or_default()
+    }
+
+    /// Whether a block may be offered: its stream brings something, and before a trailer all non-trailer blocks were decoded. No further
+    /// one is written, since the trailer was.
     pub fn brings(&self, stream: u64, part: u64) -> bool {
-        self.open.get(&stream).is_some_and(|stream| !stream.reset && (part == 0 || stream.decoded[0]))
+        self.open.get(&stream).is_some_and(|stream| !stream.reset && (part == 0 || stream.heard()))
     }
 
     pub fn decoded(&mut self, stream: u64, part: u64) {
-        self.open.entry(stream).or_default().decoded[part as usize] = true;
+        self.opened(stream).decoded[part as usize] += 1;
+    }
+
+    /// A stream whose non-trailer part to tell as over: reset, or every block of it decoded, and told before or not; sometimes one that has
+    /// ended, or one that was never used.
+    pub fn next_to_say_over(&self, random: &mut Random) -> Option<u64> {
+        match random.below(40) {
+            0 if !self.ended.is_empty() => Some(*random.pick(&self.ended)),
+            1 => self.plan.last().copied(),
+            _ => self.some(random, |stream| stream.reset || stream.heard()),
+        }
+    }
+
+    pub fn said_over(&mut self, number: u64) {
+        if !self.ended.contains(&number) {
+            let stream = self.opened(number);
+            stream.over |= !stream.reset;
+        }
     }
 
     /// A stream to tell as ended: reset, or every block decoded; sometimes one ended before, or one that was never used.
@@ -65,8 +108,15 @@ impl Streams {
     /// Resets a stream.
     pub fn reset(&mut self, random: &mut Random) -> Option<u64> {
         let number = self.some(random, |stream| !stream.reset)?;
-        self.open.entry(number).or_default().reset = true;
+        self.opened(number).reset = true;
         Some(number)
+    }
+
+    /// Some streams that were used, and one that was not.
+    pub fn some_of_all(&self, random: &mut Random) -> BTreeSet<u64> {
+        let used: Vec<u64> = self.open.keys().chain(&self.ended).copied().collect();
+        let some = (0..SOME).filter(|_| !used.is_empty()).map(|_| *random.pick(&used));
+        some.chain(self.plan.last().copied()).collect()
     }
 
     fn some(&self, random: &mut Random, test: impl Fn(&Stream) -> bool) -> Option<u64> {

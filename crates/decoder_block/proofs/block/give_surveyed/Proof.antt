@@ -1,12 +1,10 @@
--- `give_surveyed` meets its contract: by what was surveyed it is refused, waits, finds no room, or gives the fields and finishes the part.
+-- `give_surveyed` meets its contract: by what was surveyed it is refused, waits, finds no room, or gives the fields, and what it finishes is finished.
 use Prim.Native.Nat.{ℕ}
 use denote.Ref.{now}
 use native.Mathlib.Omega.{arith}
-use mathlib.Core.Path.{refl, sym, ap, ap₂, subst, _∙_}
+use mathlib.Core.Path.{refl, sym, ap, subst, _∙_}
 use lib.ListN.{length}
 use Rattle.integers.specs.Answers.{done}
-use Rattle.integers.specs.declared.number.StreamNumber.{StreamNumber}
-use Rattle.marks.specs.Marks.{cleared}
 use Rattle.blocks.specs.Meaning.{BlockMeaning}
 use Rattle.state.specs.DecoderState.{decoderOf}
 use Rattle.decoder_survey.specs.Measure.{IsList, listBytes}

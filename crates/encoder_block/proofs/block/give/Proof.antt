@@ -1,4 +1,4 @@
--- `give` meets its contract: a refusal is that of the room, and else the output has the block, memory its references and its part marked as written.
+-- `give` meets its contract: a refusal is that of the room, and else the output has the block, memory its references, and what it closes is closed.
 use denote.Ref.{now}
 use Prim.Native.Nat.{_≤_}
 use mathlib.Core.Path.{_≡_, ap}
@@ -9,7 +9,7 @@ use Rattle.blocks.specs.Representation.{blockWire}
 use Rattle.parts.specs.Turn.{partIn}
 use Rattle.encoder_fields.specs.Measure.{representationsOf}
 use Rattle.encoder_fields.specs.Refer.{entered}
-use Rattle.encoder_block.proofs.Giving.{marks-low, tells-kept, Ready, its-turn, long-memory, not-fitting, fitting, still-forms, still-room, still-passed}
+use Rattle.encoder_block.proofs.Giving.{tells-kept, Ready, its-turn, long-memory, not-fitting, fitting, still-forms, still-room, still-passed}
 use Rattle.encoder_block.proofs.Giving.{refers-length, gives}
 use borrow.Author.Needs.{needs}
 use Rattle.encoder_block.proofs.block.give.Statement.{statement}
@@ -66,18 +66,15 @@ write-list-requires c κs =
     let kept = c .before .before .before .before .before .before .before .room-answer .ensures .1 in
     ((still-forms r out _ _ (kept .0) (kept .1), its-turn r .0), (start (c .before .before .before .before .before .before .before .before .before .before) .pre .1, λ e. still-room r out _ _ (kept .0) (kept .1) (room (c .before .before))))
 
-marks-place-requires : tie.Need-marks-place-requires
-marks-place-requires c κs = search needs
-
-clear-requires : tie.Need-clear-requires
-clear-requires c κs =
-    let r = ready (c .before .before .before .before .before .before .before .before .before .before .before .before .before .before .before .before .before) in
-    let fits = room (c .before .before .before .before .before .before .before .before .before) in
-    let same = refers-length r (now (start (c .before .before .before .before .before .before .before .before .before .before .before .before .before .before .before .before .before) .args .out)) (fits .0) (fits .1) _ (passed (c .before .before .before .before .before .before) .1 .0) in
-    (its-turn r .0, omega (arith, c .marks-place .ensures, marks-low (partIn (start (c .before .before .before .before .before .before .before .before .before .before .before .before .before .before .before .before .before) .args .part)), long-memory r, same))
+close-after-requires : tie.Need-close-after-requires
+close-after-requires c κs =
+    let r = ready (c .before .before .before .before .before .before .before .before .before .before .before .before .before .before .before .before) in
+    let fits = room (c .before .before .before .before .before .before .before .before) in
+    let same = refers-length r (now (start (c .before .before .before .before .before .before .before .before .before .before .before .before .before .before .before .before) .args .out)) (fits .0) (fits .1) _ (passed (c .before .before .before .before .before) .1 .0) in
+    (its-turn r .0, omega (arith, long-memory r, same))
 
 cast-done : tie.Need-cast-done
-cast-done c = omega (arith, passed (c .before .before .before .before .before .before .before .before .before) .0, room (c .before .before .before .before .before .before .before .before .before .before .before .before) .0)
+cast-done c = omega (arith, passed (c .before .before .before .before .before .before .before .before) .0, room (c .before .before .before .before .before .before .before .before .before .before .before) .0)
 
 done-requires : tie.Need-done-requires
 done-requires c κs = search needs
@@ -90,10 +87,10 @@ same-length-4 c = search needs
 
 returns-2 : tie.Need-returns-2
 returns-2 c =
-    let w = passed (c .before .before .before .before .before .before .before .before .before .before) in
-    let fits = room (c .before .before .before .before .before .before .before .before .before .before .before .before .before) in
-    gives (ready (c .before .before .before .before .before .before .before .before .before .before .before .before .before .before .before .before .before .before .before .before .before)) (now (start (c .before .before .before .before .before .before .before .before .before .before .before .before .before .before .before .before .before .before .before .before .before) .args .out)) (fits .0) (fits .1) _ (w .1 .0) _ (w .0) _ _ _ _ (c .done .ensures) (c .before .before .before .before .marks-place .ensures)
-    (c .before .before .before .clear .ensures) (w .1 .1)
+    let w = passed (c .before .before .before .before .before .before .before .before .before) in
+    let fits = room (c .before .before .before .before .before .before .before .before .before .before .before .before) in
+    gives (ready (c .before .before .before .before .before .before .before .before .before .before .before .before .before .before .before .before .before .before .before .before)) (now (start (c .before .before .before .before .before .before .before .before .before .before .before .before .before .before .before .before .before .before .before .before) .args .out)) (fits .0) (fits .1) _ (w .1 .0) _ (w .0) _ _ _ (c .done .ensures)
+    (c .before .before .before .close-after .ensures) (w .1 .1)
 
 pub give-spec : {M : Type 1} → statement M
 give-spec =
@@ -105,8 +102,7 @@ give-spec =
     same-length-2
     returns
     write-list-requires
-    marks-place-requires
-    clear-requires
+    close-after-requires
     cast-done
     done-requires
     same-length-3

@@ -10,10 +10,10 @@ use Rattle.link_state.proofs.notes.clear.Statement.{statement}
 use Rattle.link_state.proofs.notes.clear.Tie as tie
 
 abbrev Inv-loop : tie.InvT-loop
-Inv-loop notes₀ from i₀ notes i = (i ≤ 8192) × (notes ≡ cleared notes₀ from i)
+Inv-loop notes₀ from count i₀ notes i = (i ≤ count) × (notes ≡ cleared notes₀ from i)
 
 abbrev μ-loop : tie.MeasureT-loop
-μ-loop notes₀ from i₀ notes i = 8192 - i
+μ-loop notes₀ from count i₀ notes i = count - i
 
 loop-holds : tie.Need-loop-holds Inv-loop μ-loop
 loop-holds c = (omega arith, sym (cleared-none _ _))
@@ -37,7 +37,7 @@ loop-again : tie.Need-loop-again Inv-loop μ-loop
 loop-again c = (omega arith, ap (λ (l : List ℕ). set l (c .before .before .args .from + c .before .loop .i) 0) (c .before .loop .inv .1) ∙ sym (cleared-more _ _ _))
 
 returns : tie.Need-returns Inv-loop μ-loop
-returns c = c .before .loop .inv .1 ∙ cleared-all _ _ _ 8192 (c .before .loop .inv .0) (c .loop-test .left)
+returns c = c .before .loop .inv .1 ∙ cleared-all _ _ _ _ (c .before .loop .inv .0) (c .loop-test .left)
 
 pub clear-spec : {M : Type 1} → statement M
 clear-spec =

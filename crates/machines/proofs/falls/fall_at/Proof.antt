@@ -5,11 +5,14 @@ use borrow.Author.Needs.{needs}
 use Rattle.machines.proofs.falls.fall_at.Statement.{statement}
 use Rattle.machines.proofs.falls.fall_at.Tie as tie
 
+add-lowest : tie.Need-add-lowest
+add-lowest c = search needs
+
 lowest-requires : tie.Need-lowest-requires
 lowest-requires c κs = search needs
 
-add-lowest : tie.Need-add-lowest
-add-lowest c = search needs
+add-lowest-2 : tie.Need-add-lowest-2
+add-lowest-2 c = search needs
 
 lowest-requires-2 : tie.Need-lowest-requires-2
 lowest-requires-2 c κs = search needs
@@ -23,4 +26,4 @@ returns c = c .first-fall .ensures ∙ rw (c .before .lowest2 .ensures, c .befor
 
 pub fall-at-spec : {M : Type 1} → statement M
 fall-at-spec =
-    tie.close (tie.spec lowest-requires add-lowest lowest-requires-2 first-fall-requires returns)
+    tie.close (tie.spec add-lowest lowest-requires add-lowest-2 lowest-requires-2 first-fall-requires returns)

@@ -20,11 +20,14 @@ standing-at-requires c κs = subst Kept (c .before .before .place .given .1) (c 
 most-before-requires : tie.Need-most-before-requires
 most-before-requires c κs = search needs
 
+fall-from-requires : tie.Need-fall-from-requires
+fall-from-requires c κs = search needs
+
 with-report-requires : tie.Need-with-report-requires
 with-report-requires c κs = search needs
 
 report-requires : tie.Need-report-requires
-report-requires c κs = subst Kept (c .before .before .before .before .before .before .place .given .1) (c .before .before .before .before .before .before .before .before .find .ensures)
+report-requires c κs = subst Kept (c .before .before .before .before .before .before .before .place .given .1) (c .before .before .before .before .before .before .before .before .before .find .ensures)
 
 enum-known-place-2 : tie.Need-enum-known-place-2
 enum-known-place-2 c = search needs
@@ -59,6 +62,7 @@ keep-spec =
     enum-known-place
     standing-at-requires
     most-before-requires
+    fall-from-requires
     with-report-requires
     report-requires
     enum-known-place-2

@@ -1,7 +1,7 @@
 use mathlib.Core.Path.{sym, _∙_}
 use native.Mathlib.Omega.{arith}
 use borrow.Author.Needs.{needs}
-use Rattle.parts.proofs.Turns.{above-out, no-part-out, early-out, nontrailer-answer, trailer-answer}
+use Rattle.parts.proofs.Turns.{above-out, no-part-out, nontrailer-answer, trailer-answer}
 use Rattle.parts.proofs.turn.turn_of.Statement.{statement}
 use Rattle.parts.proofs.turn.turn_of.Tie as tie
 
@@ -20,35 +20,28 @@ new-requires : tie.Need-new-requires
 new-requires c κs = search needs
 
 is-set-requires : tie.Need-is-set-requires
-is-set-requires c κs = rw (c .new .ensures) (omega arith, omega arith)
+is-set-requires c κs = rw (c .before .new .ensures) (omega arith, omega arith)
 
 turn-if-requires : tie.Need-turn-if-requires
 turn-if-requires c κs = search needs
 
 returns-2 : tie.Need-returns-2
 returns-2 c =
-    let mark = c .before .before in
-    c .turn-if .ensures ∙ sym (nontrailer-answer _ _ _ _ (mark .before .new .ensures) (omega arith) _ (mark .is-set .ensures) (omega arith))
+    c .turn-if .ensures ∙ sym (nontrailer-answer _ _ _ _ (c .before .before .before .new .ensures) (omega arith) _ (omega arith) (c .before .is-set .ensures))
 
 returns-3 : tie.Need-returns-3
 returns-3 c = sym (no-part-out _ _ _ (λ e. omega arith) (λ e. omega arith))
 
-returns-4 : tie.Need-returns-4
-returns-4 c =
-    let mark = c .before .before .before in
-    sym (early-out _ _ _ _ (mark .before .new .ensures) (omega arith) _ (mark .is-set .ensures) (omega arith) (c .if4 .taken))
-
 is-set-requires-2 : tie.Need-is-set-requires-2
-is-set-requires-2 c κs = rw (c .before .before .before .before .new .ensures) (omega arith, omega arith)
+is-set-requires-2 c κs = rw (c .before .before .new .ensures) (omega arith, omega arith)
 
 turn-if-requires-2 : tie.Need-turn-if-requires-2
 turn-if-requires-2 c κs = search needs
 
-returns-5 : tie.Need-returns-5
-returns-5 c =
-    let mark = c .before .before .before .before .before in
+returns-4 : tie.Need-returns-4
+returns-4 c =
     c .turn-if2 .ensures
-    ∙ sym (trailer-answer _ _ _ _ (mark .before .new .ensures) (omega arith) _ (mark .is-set .ensures) (omega arith) (c .before .before .if4 .left) _ (c .before .is-set2 .ensures))
+    ∙ sym (trailer-answer _ _ _ _ (c .before .before .before .before .new .ensures) (omega arith) _ (omega arith) (c .before .is-set2 .ensures))
 
 pub turn-of-spec : {M : Type 1} → statement M
 turn-of-spec =
@@ -62,7 +55,6 @@ turn-of-spec =
     turn-if-requires
     returns-2
     returns-3
-    returns-4
     is-set-requires-2
     turn-if-requires-2
-    returns-5)
+    returns-4)

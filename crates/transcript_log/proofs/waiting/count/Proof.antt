@@ -6,10 +6,10 @@ use Rattle.transcript_log.proofs.waiting.count.Statement.{statement}
 use Rattle.transcript_log.proofs.waiting.count.Tie as tie
 
 abbrev Inv-loop : tie.InvT-loop
-Inv-loop notes n₀ k₀ n k = (k ≤ 8192) × (n ≤ k)
+Inv-loop notes from to n₀ k₀ n k = n ≤ k
 
 abbrev μ-loop : tie.MeasureT-loop
-μ-loop notes n₀ k₀ n k = 8192 - k
+μ-loop notes from to n₀ k₀ n k = to - k
 
 loop-holds : tie.Need-loop-holds Inv-loop μ-loop
 loop-holds c = omega arith

@@ -1,16 +1,16 @@
 -- `list` is safe and ends. The measure is how many places are left.
 use mathlib.Core.Path.{_≡_}
-use Prim.Native.Nat.{_-_, _≤_}
+use Prim.Native.Nat.{_-_}
 use native.Mathlib.Omega.{arith}
 use lib.ListN.{length}
 use Rattle.transcript_log.proofs.waiting.list.Statement.{statement}
 use Rattle.transcript_log.proofs.waiting.list.Tie as tie
 
 abbrev Inv-loop : tie.InvT-loop
-Inv-loop out₀ notes a₀ first₀ k₀ out a first k = (k ≤ 8192) × (length out ≡ length out₀)
+Inv-loop out₀ notes from to a₀ first₀ k₀ out a first k = length out ≡ length out₀
 
 abbrev μ-loop : tie.MeasureT-loop
-μ-loop out₀ notes a₀ first₀ k₀ out a first k = 8192 - k
+μ-loop out₀ notes from to a₀ first₀ k₀ out a first k = to - k
 
 loop-holds : tie.Need-loop-holds Inv-loop μ-loop
 loop-holds c = omega arith

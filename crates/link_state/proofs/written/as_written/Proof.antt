@@ -1,8 +1,8 @@
 -- `as_written` meets its contract, by its tests.
 use mathlib.Core.Path.{_≡_, refl, sym, ap, _∙_}
 use borrow.Author.Tests.{eq-eqb, ne-eqb, lt-ltb, le-ltb, le-leb, lt-leb}
-use Rattle.link_state.proofs.notes.as_written.Statement.{statement}
-use Rattle.link_state.proofs.notes.as_written.Tie as tie
+use Rattle.link_state.proofs.written.as_written.Statement.{statement}
+use Rattle.link_state.proofs.written.as_written.Tie as tie
 
 returns : tie.Need-returns
 returns c = rw (eq-eqb _ 0 (c .if1 .taken))
