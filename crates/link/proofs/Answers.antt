@@ -57,7 +57,7 @@ laid-decoder D m long K = record {
 }
 
 -- memory that forms no state
-no-decoder : (m : List ℕ) → formsDecoder m ≡ false → (c : DecoderCall) → decoderResult m c ≡ refused m (decoderLent c) no-state
+pub no-decoder : (m : List ℕ) → formsDecoder m ≡ false → (c : DecoderCall) → decoderResult m c ≡ refused m (decoderLent c) no-state
 unfolding decoderResult readCall decoder.blockCall overCall endedCall holdCall collectCall
 no-decoder m e (calls.DecoderCall.read s) = need-false (formsDecoder m) _ _ e
 no-decoder m e (calls.DecoderCall.block stream part s out) = need-false (formsDecoder m) _ _ e

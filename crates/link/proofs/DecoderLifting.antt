@@ -75,6 +75,16 @@ fine-decoder D (calls.DecoderCall.close k stream) = tt
 fine-decoder D (calls.DecoderCall.collect out) = tt
 fine-decoder D (calls.DecoderCall.hold index) = tt
 
+-- a block brings no string
+pub block-bytes : (D : Decoder) (stream part : ℕ) (s out : List ℕ) → SmallDecoderCall (decoderCallOf D (calls.DecoderCall.block stream part s out))
+unfolding decoderCallOf
+block-bytes D stream part s out =
+    pick-both SmallDecoderCall (partTurn (D .finished) stream (partOf part)) _ (at-decoder.unread out-of-turn) (λ e. go (readBlock s)) (λ e. tt)
+  where
+    go : (r : BlockRead) → SmallDecoderCall (readBlockCall stream part (length out) r)
+    go (blocks.BlockRead.block rs) = tt
+    go (blocks.BlockRead.refused number) = tt
+
 small-decoder-call : (D : Decoder) (c : DecoderCall) → DecoderBytes c → SmallDecoderCall (decoderCallOf D c)
 unfolding decoderCallOf
 small-decoder-call D (calls.DecoderCall.read s) b = go (readForDecoder s)
@@ -82,12 +92,7 @@ small-decoder-call D (calls.DecoderCall.read s) b = go (readForDecoder s)
     go : (r : InstructionRead) → SmallDecoderCall (onInstruction at-decoder.unread r (λ p taken. at-decoder.read (instructionOf s p) taken))
     go (Found p taken) = place-bytes s b p
     go (Refused number) = tt
-small-decoder-call D (calls.DecoderCall.block stream part s out) b =
-    pick-both SmallDecoderCall (partTurn (D .finished) stream (partOf part)) _ (at-decoder.unread out-of-turn) (λ e. go (readBlock s)) (λ e. tt)
-  where
-    go : (r : BlockRead) → SmallDecoderCall (readBlockCall stream part (length out) r)
-    go (blocks.BlockRead.block rs) = tt
-    go (blocks.BlockRead.refused number) = tt
+small-decoder-call D (calls.DecoderCall.block stream part s out) b = block-bytes D stream part s out
 small-decoder-call D (calls.DecoderCall.close k stream) b = tt
 small-decoder-call D (calls.DecoderCall.collect out) b = tt
 small-decoder-call D (calls.DecoderCall.hold index) b = tt

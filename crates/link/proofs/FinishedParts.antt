@@ -81,7 +81,7 @@ module _ (D : Decoder) where
   unfolding decoderCall
   hold-keeps i = ways.hold-ways Kept D (λ a z. refl) i (λ d e. refl)
 
-finished-call : (D : Decoder) (c : DecoderCall) (r : Result) → r .answer ≡ decoderCall D (decoderCallOf D c) .answer
+pub finished-call : (D : Decoder) (c : DecoderCall) (r : Result) → r .answer ≡ decoderCall D (decoderCallOf D c) .answer
     → finishedBy (D .finished) c r ≡ decoderCall D (decoderCallOf D c) .state .finished
 unfolding finishedBy decoderCallOf
 finished-call D (calls.DecoderCall.read s) r e = reads-keep D s (readForDecoder s)

@@ -34,6 +34,11 @@ pub mod ClosedParts
 pub mod EncoderHistory
 pub mod Within
 pub mod HistoriesClaim
+-- the order of reports
+pub mod ApartFacts
+pub mod OrderMarks
+pub mod OrderCalls
+pub mod OrderClaim
 -- demand 3, before "Hence"
 pub mod StillAccepted
 pub mod ReadyClaim

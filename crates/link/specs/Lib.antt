@@ -1,7 +1,9 @@
--- The claims over whole lists of calls. Claims is the file to read, with Calls and Happened before it; Anew after it, for links that start anew.
+-- The claims over whole lists of calls. Claims is the file to read, with Calls and Happened before it; Anew after it, for links that start anew. Order has which two
+-- calls of the decoder may change places.
 pub mod Calls
 pub mod Happened
 pub mod Answers
 pub mod Histories
 pub mod Claims
+pub mod Order
 pub mod Anew
