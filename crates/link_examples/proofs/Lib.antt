@@ -11,3 +11,5 @@ pub mod CallBytes
 -- the three tables
 pub mod Tables
 pub mod ExamplesClaim
+-- calls whose order counts
+pub mod OrdersClaim

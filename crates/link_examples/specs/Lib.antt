@@ -1,2 +1,3 @@
--- Two closed lists of calls on a link. Examples is the file to read.
+-- Closed lists of calls on a link: Examples is the file to read. Orders has calls whose order counts.
 pub mod Examples
+pub mod Orders

@@ -45,11 +45,11 @@ use Rattle.link.proofs.CallTests.{decoderGiven, allDecoderGiven, decoder-given,
 -- ---- the model's side
 
 -- the state after a start with this limit and the calls cs
-abbrev stateSince : ℕ → List DecoderCall → Decoder
+abbrev pub stateSince : ℕ → List DecoderCall → Decoder
 stateSince limit cs = afterDecoder (startDecoder limit) (decoderCallsOf (startDecoder limit) cs)
 
 -- what a call leaves but memory
-abbrev leaves : Decoder → DecoderCall → Result
+abbrev pub leaves : Decoder → DecoderCall → Result
 leaves D c = stepped (λ E m. m) [] (decoderLent c) (decoderCall D (decoderCallOf D c))
 
 abbrev numbersBy : Decoder → List DecoderCall → List ℕ
@@ -58,7 +58,7 @@ numbersBy D (c ∷ cs) = leaves D c .answer .number ∷ numbersBy (decoderCall D
 
 -- ---- one side is the other
 
-same-told : (r s : Result) → r .answer ≡ s .answer → r .output ≡ s .output → told r ≡ told s
+pub same-told : (r s : Result) → r .answer ≡ s .answer → r .output ≡ s .output → told r ≡ told s
 same-told r s = ap₂ (λ (a : Answer) (o : List ℕ). told (record { answer = a; memory = []; output = o }))
 
 numbers-are : (m : List ℕ) (D : Decoder) → StandsDecoder m D → (cs : List DecoderCall) → AllDecoderBytes cs → numbers m cs ≡ numbersBy D cs
@@ -85,7 +85,7 @@ module _ (m : List ℕ) (small : Small m) (limit : ℕ) (ok : startCall m limit 
   stands : (cs : List DecoderCall) → allDecoderGiven cs ≡ true → StandsDecoder (since m limit cs) (stateSince limit cs)
   stands cs b = after-decoder (startCall m limit .memory) (startDecoder limit) (start-decoder m limit small ok) cs (all-decoder-given cs b)
 
-  told-is : (cs : List DecoderCall) (c : DecoderCall) → allDecoderGiven cs ≡ true → decoderGiven c ≡ true
+  pub told-is : (cs : List DecoderCall) (c : DecoderCall) → allDecoderGiven cs ≡ true → decoderGiven c ≡ true
       → told (decoderResult (since m limit cs) c) ≡ told (leaves (stateSince limit cs) c)
   unfolding stepped
   told-is cs c b d =
