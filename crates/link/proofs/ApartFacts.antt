@@ -1,11 +1,12 @@
--- Which calls may change places, computed: a wrong definition fails here, before anything is proved of it.
+-- Which calls may change places, computed: a wrong definition fails here, before anything is proved of it. Then the request's three clauses for all calls.
+-- The pairs computed to be left out are those of crates/link_examples/specs/OrderCounts.antt, and their like.
 use mathlib.Core.Path.{_≡_, refl, ap, sym, _∙_}
 use Prim.Native.Nat.{ℕ}
 use mathlib.Core.Bool.{true, false, not}
-use mathlib.Core.List.{[]}
+use mathlib.Core.List.{List, [], _∷_}
 use borrow.Author.Tests.{eq-eqb, ne-eqb}
 use Rattle.memory.proofs.Order.{not-both}
-use Rattle.model.specs.Parts.{over, ended}
+use Rattle.model.specs.Parts.{Closing, over, ended}
 use Rattle.link.specs.Calls.{read, block, close, collect, hold}
 use Rattle.link.specs.Order.{otherStream, apartFromBlock, apartFromClosing, apart}
 
@@ -14,13 +15,21 @@ blocks-apart : apart (block 0 0 [] []) (block 1 0 [] []) ≡ true
 unfolding apart apartFromBlock otherStream
 blocks-apart = refl
 
+trailers-apart : apart (block 0 1 [] []) (block 1 1 [] []) ≡ true
+unfolding apart apartFromBlock otherStream
+trailers-apart = refl
+
 blocks-above : apart (block 4096 0 [] []) (block 4097 0 [] []) ≡ true
 unfolding apart apartFromBlock otherStream
 blocks-above = refl
 
-blocks-together : apart (block 0 1 [] []) (block 0 1 [] []) ≡ false
+trailers-together : apart (block 0 1 [] []) (block 0 1 [] []) ≡ false
 unfolding apart apartFromBlock otherStream
-blocks-together = refl
+trailers-together = refl
+
+trailer-nontrailer : apart (block 0 1 [] []) (block 0 0 [] []) ≡ false
+unfolding apart apartFromBlock otherStream
+trailer-nontrailer = refl
 
 -- ---- "a block and an "ended" for another stream", either first
 block-ended : apart (block 0 0 [] []) (close ended 1) ≡ true
@@ -49,15 +58,15 @@ unfolding apart apartFromClosing
 over-ended = refl
 
 -- ---- "Collect, insert and delete are not in this law", nor is the enquiry
-ended-collect : apart (close ended 0) (collect []) ≡ false
+ended-collect : apart (close ended 0) (collect (0x00 ∷ [])) ≡ false
 unfolding apart apartFromClosing
 ended-collect = refl
 
-collect-ended : apart (collect []) (close ended 0) ≡ false
+collect-ended : apart (collect (0x00 ∷ [])) (close ended 0) ≡ false
 unfolding apart
 collect-ended = refl
 
-block-collect : apart (block 0 0 [] []) (collect []) ≡ false
+block-collect : apart (block 0 1 [] []) (collect (0x00 ∷ [])) ≡ false
 unfolding apart apartFromBlock
 block-collect = refl
 
@@ -69,6 +78,31 @@ ended-hold : apart (close ended 0) (hold 62) ≡ false
 unfolding apart apartFromClosing
 ended-hold = refl
 
+-- ---- the three clauses, for all calls: whatever parts, bytes and outputs
+other-stream : (s t : ℕ) → (s ≡ t → ⊥) → otherStream s t ≡ true
+unfolding otherStream
+other-stream s t other = ap not (ne-eqb s t other)
+
+module _ (s t : ℕ) (other : s ≡ t → ⊥) (part : ℕ) (b out : List ℕ) where
+  -- "two blocks on different streams"
+  two-blocks : (q : ℕ) (c lent : List ℕ) → apart (block s part b out) (block t q c lent) ≡ true
+  unfolding apart apartFromBlock
+  two-blocks q c lent = other-stream s t other
+
+  -- "or a block and an "ended" for another stream", the one first or the other
+  block-closing : (k : Closing) → apart (block s part b out) (close k t) ≡ true
+  unfolding apart apartFromBlock
+  block-closing k = other-stream s t other
+
+  closing-block : (k : Closing) → apart (close k t) (block s part b out) ≡ true
+  unfolding apart apartFromClosing
+  closing-block k = other-stream t s (λ e. other (sym e))
+
+-- "or two "ended" calls on any streams"
+two-closings : (k j : Closing) (s t : ℕ) → apart (close k s) (close j t) ≡ true
+unfolding apart apartFromClosing
+two-closings k j s t = refl
+
 -- ---- what another stream is
 same-stream : (s : ℕ) → otherStream s s ≡ false
 unfolding otherStream
@@ -78,5 +112,4 @@ pub other-not : (s t : ℕ) → otherStream s t ≡ true → s ≡ t → ⊥
 other-not s t h e = not-both (otherStream s t) h (ap (otherStream s) (sym e) ∙ same-stream s)
 
 pub other-sym : (s t : ℕ) → otherStream s t ≡ true → otherStream t s ≡ true
-unfolding otherStream
-other-sym s t h = ap not (ne-eqb t s (λ e. other-not s t h (sym e)))
+other-sym s t h = other-stream t s (λ e. other-not s t h (sym e))

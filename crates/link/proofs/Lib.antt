@@ -38,6 +38,7 @@ pub mod HistoriesClaim
 pub mod ApartFacts
 pub mod OrderMarks
 pub mod OrderCalls
+pub mod OrderAgain
 pub mod OrderClaim
 -- demand 3, before "Hence"
 pub mod StillAccepted

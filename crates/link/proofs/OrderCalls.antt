@@ -1,5 +1,5 @@
 -- A block or a closing, as the order of reports needs it: what it answers and writes is a matter of the entries and of the marks of its own stream, a closing's
--- not even of these; and it changes marks alone, to those that its answer says.
+-- not even of these; and it changes marks alone, to those that its answer says. Of the output lent a block takes the length alone.
 -- By the tests of each call: none looks at the marks of another stream.
 use mathlib.Core.Path.{_≡_, refl, sym, ap, _∙_}
 use Prim.Native.Nat.{ℕ}
@@ -38,13 +38,21 @@ use Rattle.link.proofs.OrderMarks.{block-other, close-other}
 abbrev pub outcome : Decoder → DecoderCall → Outcome Decoder
 outcome D c = decoderCall D (decoderCallOf D c)
 
--- the call is a block or a closing, and the marks that it looks at are the same in f and in g
-abbrev pub Looks : DecoderCall → Marks → Marks → Type 0
-Looks (calls.DecoderCall.read s) f g = ⊥
-Looks (calls.DecoderCall.block s part b out) f g = (p : Part) → f s p ≡ g s p
-Looks (calls.DecoderCall.close k s) f g = Unit {0}
-Looks (calls.DecoderCall.collect out) f g = ⊥
-Looks (calls.DecoderCall.hold index) f g = ⊥
+-- the call is a block or a closing
+abbrev pub Marking : DecoderCall → Type 0
+Marking (calls.DecoderCall.read s) = ⊥
+Marking (calls.DecoderCall.block s part b out) = Unit {0}
+Marking (calls.DecoderCall.close k s) = Unit {0}
+Marking (calls.DecoderCall.collect out) = ⊥
+Marking (calls.DecoderCall.hold index) = ⊥
+
+-- the marks that a block looks at are the same in f and in g; a closing looks at none; other calls are left out
+abbrev pub SameFor : DecoderCall → Marks → Marks → Type 0
+SameFor (calls.DecoderCall.read s) f g = ⊥
+SameFor (calls.DecoderCall.block s part b out) f g = (p : Part) → f s p ≡ g s p
+SameFor (calls.DecoderCall.close k s) f g = Unit {0}
+SameFor (calls.DecoderCall.collect out) f g = ⊥
+SameFor (calls.DecoderCall.hold index) f g = ⊥
 
 -- ---- calls that are apart
 pub apart-sym : (c d : DecoderCall) → apart c d ≡ true → apart d c ≡ true
@@ -63,18 +71,26 @@ apart-sym (calls.DecoderCall.close k s) (calls.DecoderCall.hold i) h = not-both 
 apart-sym (calls.DecoderCall.collect out) d h = not-both false h refl
 apart-sym (calls.DecoderCall.hold i) d h = not-both false h refl
 
+pub apart-marking : (c d : DecoderCall) → apart c d ≡ true → Marking c
+unfolding apart
+apart-marking (calls.DecoderCall.read s) d h = not-both false h refl
+apart-marking (calls.DecoderCall.block s part b out) d h = tt
+apart-marking (calls.DecoderCall.close k s) d h = tt
+apart-marking (calls.DecoderCall.collect out) d h = not-both false h refl
+apart-marking (calls.DecoderCall.hold i) d h = not-both false h refl
+
 -- the other leaves the marks that the first looks at
-pub apart-looks : (c d : DecoderCall) → apart c d ≡ true → (f : Marks) (q : Result) → Looks c (finishedBy f d q) f
+pub apart-same : (c d : DecoderCall) → apart c d ≡ true → (f : Marks) (q : Result) → SameFor c (finishedBy f d q) f
 unfolding apart apartFromBlock apartFromClosing
-apart-looks (calls.DecoderCall.read s) d h f q = not-both false h refl
-apart-looks (calls.DecoderCall.block s part b out) (calls.DecoderCall.read x) h f q = not-both false h refl
-apart-looks (calls.DecoderCall.block s part b out) (calls.DecoderCall.block t n x y) h f q = λ p. block-other f t s (λ e. other-not s t h (sym e)) p n x y q
-apart-looks (calls.DecoderCall.block s part b out) (calls.DecoderCall.close k t) h f q = λ p. close-other f t s (λ e. other-not s t h (sym e)) p k q
-apart-looks (calls.DecoderCall.block s part b out) (calls.DecoderCall.collect x) h f q = not-both false h refl
-apart-looks (calls.DecoderCall.block s part b out) (calls.DecoderCall.hold i) h f q = not-both false h refl
-apart-looks (calls.DecoderCall.close k s) d h f q = tt
-apart-looks (calls.DecoderCall.collect out) d h f q = not-both false h refl
-apart-looks (calls.DecoderCall.hold i) d h f q = not-both false h refl
+apart-same (calls.DecoderCall.read s) d h f q = not-both false h refl
+apart-same (calls.DecoderCall.block s part b out) (calls.DecoderCall.read x) h f q = not-both false h refl
+apart-same (calls.DecoderCall.block s part b out) (calls.DecoderCall.block t n x y) h f q = λ p. block-other f t s (λ e. other-not s t h (sym e)) p n x y q
+apart-same (calls.DecoderCall.block s part b out) (calls.DecoderCall.close k t) h f q = λ p. close-other f t s (λ e. other-not s t h (sym e)) p k q
+apart-same (calls.DecoderCall.block s part b out) (calls.DecoderCall.collect x) h f q = not-both false h refl
+apart-same (calls.DecoderCall.block s part b out) (calls.DecoderCall.hold i) h f q = not-both false h refl
+apart-same (calls.DecoderCall.close k s) d h f q = tt
+apart-same (calls.DecoderCall.collect out) d h f q = not-both false h refl
+apart-same (calls.DecoderCall.hold i) d h f q = not-both false h refl
 
 -- ---- what it answers and writes
 pub record Told : Type 0 where
@@ -123,7 +139,7 @@ module _ (D : Decoder) (f g : Marks) where
     reads part true (blocks.BlockRead.refused number) = refl
     reads part false r = refl
 
-  pub same-told : (c : DecoderCall) → Looks c f g → told (outcome F c) ≡ told (outcome G c)
+  pub same-told : (c : DecoderCall) → SameFor c f g → told (outcome F c) ≡ told (outcome G c)
   unfolding decoderCallOf decoderCall closeParts
   same-told (calls.DecoderCall.read s) same = absurd same
   same-told (calls.DecoderCall.block s part b out) same =
@@ -147,15 +163,23 @@ module _ (D : Decoder) where
   block-marks s part room true (blocks.BlockRead.refused number) = refl
   block-marks s part room false q = refl
 
-  only-marks : (c : DecoderCall) (f g : Marks) → Looks c f g → OnlyMarks D (outcome D c)
+  only-marks : (c : DecoderCall) → Marking c → OnlyMarks D (outcome D c)
   unfolding decoderCallOf decoderCall
-  only-marks (calls.DecoderCall.read s) f g look = absurd look
-  only-marks (calls.DecoderCall.block s part b out) f g look =
+  only-marks (calls.DecoderCall.read s) k = absurd k
+  only-marks (calls.DecoderCall.block s part b out) k =
       block-marks s part (length out) (partTurn (D .finished) s (partOf part)) (readBlock b)
-  only-marks (calls.DecoderCall.close k s) f g look = ways.close-ways (OnlyMarks D) D (λ a z. refl) k s (λ low. refl)
-  only-marks (calls.DecoderCall.collect out) f g look = absurd look
-  only-marks (calls.DecoderCall.hold index) f g look = absurd look
+  only-marks (calls.DecoderCall.close j s) k = ways.close-ways (OnlyMarks D) D (λ a z. refl) j s (λ low. refl)
+  only-marks (calls.DecoderCall.collect out) k = absurd k
+  only-marks (calls.DecoderCall.hold index) k = absurd k
 
-  pub next-marks : (c : DecoderCall) (f g : Marks) → Looks c f g → (r : Result) → r .answer ≡ outcome D c .answer
+  pub next-marks : (c : DecoderCall) → Marking c → (r : Result) → r .answer ≡ outcome D c .answer
       → outcome D c .state ≡ withFinished D (finishedBy (D .finished) c r)
-  next-marks c f g look r e = only-marks c f g look ∙ ap (withFinished D) (sym (finished-call D c r e))
+  next-marks c k r e = only-marks c k ∙ ap (withFinished D) (sym (finished-call D c r e))
+
+  -- ---- of the output lent: its length
+  pub room-outcome : (s part : ℕ) (b out lent : List ℕ) → length out ≡ length lent
+      → outcome D (calls.DecoderCall.block s part b out) ≡ outcome D (calls.DecoderCall.block s part b lent)
+  unfolding decoderCallOf
+  room-outcome s part b out lent =
+      ap (λ (room : ℕ).
+      decoderCall D (pick (partTurn (D .finished) s (partOf part)) (readBlockCall s part room (readBlock b)) (at-decoder.unread out-of-turn)))

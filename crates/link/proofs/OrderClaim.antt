@@ -1,29 +1,35 @@
--- Request 8: which two calls of the decoder may change places.
+-- Request 8: which two calls of the decoder may change places; that the length alone counts of the output lent; and that a closing is idempotent.
 -- On memory that forms no state every call is refused and changes nothing. On memory that forms one, blocks and closings leave it with other marks laid over it:
 -- the calls look at marks that the other leaves alone, so each answers and writes the same; and both orders lay the same marks, over the same memory.
-use mathlib.Core.Path.{_≡_, sym, ap, subst, _∙_}
+use mathlib.Core.Path.{_≡_, refl, sym, ap, subst, _∙_}
 use Prim.Native.Nat.{ℕ}
 use mathlib.Core.Bool.{true, false}
-use mathlib.Core.List.{List}
+use mathlib.Core.List.{List, [], _∷_}
+use lib.ListN.{length}
 use Rattle.memory.specs.Bytes.{Small, overlay}
 use Rattle.memory.proofs.Order.{either}
+use Rattle.integers.specs.Answers.{Answer}
 use Rattle.model.specs.Parts.{Marks, Closing}
-use Rattle.model.specs.Outcome.{outputBytes}
+use Rattle.model.specs.Outcome.{Outcome, outputBytes}
 use Rattle.model.specs.Decoder.{Decoder, withFinished}
+use Rattle.model_laws.proofs.Answers.{decoder-refused}
 use Rattle.state.specs.DecoderState.{decoderOf, overlayDecoder}
 use Rattle.state.specs.Forms.{formsDecoder}
 use Rattle.state_laws.proofs.DecoderLaws.{decoder-laws}
 use Rattle.reply.specs.Result.{Result, stepped}
-use Rattle.link.specs.Calls.{DecoderCall, decoderResult, decoderLent}
+use Rattle.link.specs.Calls.{DecoderCall, decoderResult, decoderLent, decoderAfter, doneBytes}
 use Rattle.link.specs.Calls as calls
 use Rattle.link.specs.Histories.{finishedBy}
-use Rattle.link.specs.Order.{Alike, EitherWay, apart, OrderClaim}
+use Rattle.link.specs.Order.{Alike, EitherWay, apart, SameWritten, OrderClaim}
 use Rattle.link.proofs.Lifted.{decoderCallOf, StandsDecoder}
 use Rattle.link.proofs.StatesKept.{SmallDecoderCall, KeptDecoder, kept-decoder}
 use Rattle.link.proofs.DecoderLifting.{fine-decoder, block-bytes, stands-over, long-decoder, kept-self-decoder, same-decoder}
+use Rattle.link.proofs.DoneBytes.{done-bytes}
+use Rattle.link.proofs.Writes.{block-tells}
 use Rattle.link.proofs.Answers.{no-decoder}
-use Rattle.link.proofs.OrderMarks.{marks-over, marks-again, marks-swap, marks-answer}
-use Rattle.link.proofs.OrderCalls.{outcome, Looks, apart-sym, apart-looks, Told, told, same-told, next-marks}
+use Rattle.link.proofs.OrderMarks.{marks-over, marks-swap, marks-answer}
+use Rattle.link.proofs.OrderCalls.{outcome, Marking, SameFor, apart-sym, apart-marking, apart-same, Told, told, same-told, next-marks, room-outcome}
+use Rattle.link.proofs.OrderAgain.{Again, closed-again}
 
 -- ---- memory that forms no state
 module _ (m : List ℕ) (unformed : formsDecoder m ≡ false) where
@@ -44,16 +50,40 @@ module _ (m : List ℕ) (unformed : formsDecoder m ≡ false) where
         ∙ sym (ap (λ (l : List ℕ). decoderResult l c .memory) (stays d) ∙ stays c);
   }
 
+  refused-room : (s part : ℕ) (b out lent : List ℕ)
+      → SameWritten (decoderResult m (calls.DecoderCall.block s part b out)) (decoderResult m (calls.DecoderCall.block s part b lent))
+  refused-room s part b out lent =
+      let c : DecoderCall = calls.DecoderCall.block s part b out in
+      let d : DecoderCall = calls.DecoderCall.block s part b lent in
+      record {
+        answer = ap (λ (r : Result). r .answer) (no-decoder m unformed c) ∙ sym (ap (λ (r : Result). r .answer) (no-decoder m unformed d));
+        memory = stays c ∙ sym (stays d);
+        written = ap doneBytes (no-decoder m unformed c) ∙ sym (ap doneBytes (no-decoder m unformed d));
+      }
+
+  stays-after : (cs : List DecoderCall) → decoderAfter m cs ≡ m
+  unfolding decoderAfter
+  stays-after [] = refl
+  stays-after (c ∷ cs) = ap (λ (l : List ℕ). decoderAfter l cs) (stays c) ∙ stays-after cs
+
+  refused-again : (k : Closing) (s : ℕ) (cs : List DecoderCall) → Again m k s cs
+  refused-again k s cs =
+      let c : DecoderCall = calls.DecoderCall.close k s in
+      let l : List ℕ = decoderAfter (decoderResult m c .memory) cs in
+      let e : l ≡ m = ap (λ (x : List ℕ). decoderAfter x cs) (stays c) ∙ stays-after cs in
+      no-decoder l (ap formsDecoder e ∙ unformed) c
+      ∙ ap (λ (a : Answer). record { answer = a; memory = l; output = [] }) (sym (ap (λ (r : Result). r .answer) (no-decoder m unformed c)))
+
 -- ---- memory that forms one
 
 -- a block or a closing brings no string
-looks-bytes : (X : Decoder) (c : DecoderCall) (f g : Marks) → Looks c f g → SmallDecoderCall (decoderCallOf X c)
+marking-bytes : (X : Decoder) (c : DecoderCall) → Marking c → SmallDecoderCall (decoderCallOf X c)
 unfolding decoderCallOf
-looks-bytes X (calls.DecoderCall.read s) f g look = absurd look
-looks-bytes X (calls.DecoderCall.block s part b out) f g look = block-bytes X s part b out
-looks-bytes X (calls.DecoderCall.close k s) f g look = tt
-looks-bytes X (calls.DecoderCall.collect out) f g look = absurd look
-looks-bytes X (calls.DecoderCall.hold index) f g look = absurd look
+marking-bytes X (calls.DecoderCall.read s) k = absurd k
+marking-bytes X (calls.DecoderCall.block s part b out) k = block-bytes X s part b out
+marking-bytes X (calls.DecoderCall.close j s) k = tt
+marking-bytes X (calls.DecoderCall.collect out) k = absurd k
+marking-bytes X (calls.DecoderCall.hold index) k = absurd k
 
 module _ (m : List ℕ) (small : Small m) (forms : formsDecoder m ≡ true) where
   abbrev D : Decoder
@@ -87,15 +117,15 @@ module _ (m : List ℕ) (small : Small m) (forms : formsDecoder m ≡ true) wher
     unfolding stepped
     tells c = record { answer = ap (λ (r : Result). r .answer) (steps c); output = ap (λ (r : Result). r .output) (steps c) }
 
-    next : (c : DecoderCall) (g h : Marks) → Looks c g h → Marked (decoderResult l c .memory) (finishedBy f c (decoderResult l c))
+    next : (c : DecoderCall) → Marking c → Marked (decoderResult l c .memory) (finishedBy f c (decoderResult l c))
     unfolding stepped
-    next c g h look =
+    next c k =
         let F : Decoder = withFinished D f in
         let r : Result = decoderResult l c in
         let after : Marks = finishedBy f c r in
-        let e : outcome F c .state ≡ withFinished D after = next-marks F c g h look r (tells c .answer) in
+        let e : outcome F c .state ≡ withFinished D after = next-marks F c k r (tells c .answer) in
         let K : KeptDecoder (withFinished D after) =
-        subst KeptDecoder e (kept-decoder F (M .kept) (decoderCallOf F c) (fine-decoder F c) (looks-bytes F c g h look)) in
+        subst KeptDecoder e (kept-decoder F (M .kept) (decoderCallOf F c) (fine-decoder F c) (marking-bytes F c k)) in
         record {
           is = ap (λ (x : Result). x .memory) (steps c) ∙ ap (λ (X : Decoder). overlayDecoder X l) e
               ∙ ap (overlayDecoder (withFinished D after)) (M .is) ∙ marks-over D f after (K .fits) m;
@@ -103,12 +133,12 @@ module _ (m : List ℕ) (small : Small m) (forms : formsDecoder m ≡ true) wher
         }
 
   -- a block or a closing answers and writes the same with marks that it does not tell apart
-  alike : (l : List ℕ) (f : Marks) → Marked l f → (k : List ℕ) (g : Marks) → Marked k g → (c : DecoderCall) → Looks c f g
+  alike : (l : List ℕ) (f : Marks) → Marked l f → (k : List ℕ) (g : Marks) → Marked k g → (c : DecoderCall) → SameFor c f g
       → Alike (decoderResult l c) (decoderResult k c)
-  alike l f M k g N c look =
+  alike l f M k g N c same =
       let a = tells l f M c in
       let b = tells k g N c in
-      let e = same-told D f g c look in
+      let e = same-told D f g c same in
       record {
         answer = a .answer ∙ ap (λ (t : Told). t .answer) e ∙ sym (b .answer);
         output = a .output ∙ ap (λ (t : Told). overlay (decoderLent c) 0 (outputBytes (t .output))) e ∙ sym (b .output);
@@ -125,40 +155,52 @@ module _ (m : List ℕ) (small : Small m) (forms : formsDecoder m ≡ true) wher
       let q : Result = decoderResult m d in
       let fc : Marks = finishedBy f c r in
       let fd : Marks = finishedBy f d q in
-      let look-c : Looks c fd f = apart-looks c d h f q in
-      let look-d : Looks d fc f = apart-looks d c (apart-sym c d h) f r in
-      let C : Marked (r .memory) fc = next m f at-first c fd f look-c in
-      let E : Marked (q .memory) fd = next m f at-first d fc f look-d in
-      let one = alike (q .memory) fd E m f at-first c look-c in
-      let other = alike (r .memory) fc C m f at-first d look-d in
+      let back : apart d c ≡ true = apart-sym c d h in
+      let marks-c : Marking c = apart-marking c d h in
+      let marks-d : Marking d = apart-marking d c back in
+      let C : Marked (r .memory) fc = next m f at-first c marks-c in
+      let E : Marked (q .memory) fd = next m f at-first d marks-d in
+      let one = alike (q .memory) fd E m f at-first c (apart-same c d h f q) in
+      let other = alike (r .memory) fc C m f at-first d (apart-same d c back f r) in
       let q' : Result = decoderResult (r .memory) d in
       let r' : Result = decoderResult (q .memory) c in
       record {
         one = record { answer = sym (one .answer); output = sym (one .output) };
         other = other;
         memory = laid-same (q' .memory) (r' .memory) (finishedBy fc d q') (finishedBy fd c r')
-            (next (r .memory) fc C d fc f look-d) (next (q .memory) fd E c fd f look-c)
+            (next (r .memory) fc C d marks-d) (next (q .memory) fd E c marks-c)
             (marks-answer fc d q' q (other .answer) ∙ marks-swap f c r d q ∙ marks-answer fd c r r' (sym (one .answer)));
       }
 
-  closed-again : (k : Closing) (s : ℕ) → let r = decoderResult m (calls.DecoderCall.close k s) in decoderResult (r .memory) (calls.DecoderCall.close k s) ≡ r
-  closed-again k s =
-      let c : DecoderCall = calls.DecoderCall.close k s in
-      let f : Marks = D .finished in
-      let r : Result = decoderResult m c in
-      let q : Result = decoderResult (r .memory) c in
-      let fc : Marks = finishedBy f c r in
-      let C : Marked (r .memory) fc = next m f at-first c f f tt in
-      let same = alike (r .memory) fc C m f at-first c tt in
-      let e : q .memory ≡ r .memory =
-      laid-same (q .memory) (r .memory) (finishedBy fc c q) fc (next (r .memory) fc C c f f tt) C
-      (marks-answer fc c q r (same .answer) ∙ marks-again f c r) in
-      λ i. record { answer = same .answer i; memory = e i; output = same .output i }
+  -- a block's outcome is a matter of the room; its answer, its state and its bytes are what the call leaves
+  module _ (s part : ℕ) (b : List ℕ) where
+    abbrev offered : List ℕ → DecoderCall
+    offered out = calls.DecoderCall.block s part b out
+
+    given : (out : List ℕ) → decoderResult m (offered out) ≡ stepped overlayDecoder m out (outcome D (offered out))
+    given out = same-decoder m small forms (offered out)
+
+    writes : (out : List ℕ) → doneBytes (decoderResult m (offered out)) ≡ outputBytes (outcome D (offered out) .output)
+    unfolding stepped
+    writes out =
+        done-bytes D (outcome D (offered out)) out (decoderResult m (offered out)) (ap (λ (r : Result). r .answer) (given out))
+        (ap (λ (r : Result). r .output) (given out)) (decoder-refused D (decoderCallOf D (offered out))) (block-tells D s part b out)
+
+    same-room : (out lent : List ℕ) → length out ≡ length lent → SameWritten (decoderResult m (offered out)) (decoderResult m (offered lent))
+    unfolding stepped
+    same-room out lent same =
+        let e : outcome D (offered out) ≡ outcome D (offered lent) = room-outcome D s part b out lent same in
+        record {
+          answer = ap (λ (r : Result). r .answer) (given out) ∙ ap (λ (o : Outcome Decoder). o .answer) e ∙ sym (ap (λ (r : Result). r .answer) (given lent));
+          memory = ap (λ (r : Result). r .memory) (given out) ∙ ap (λ (o : Outcome Decoder). overlayDecoder (o .state) m) e
+              ∙ sym (ap (λ (r : Result). r .memory) (given lent));
+          written = writes out ∙ ap (λ (o : Outcome Decoder). outputBytes (o .output)) e ∙ sym (writes lent);
+        }
 
 pub order-claim : OrderClaim
 order-claim = record {
   either-way = λ m small c d h. either (formsDecoder m) (λ e. moved-both m small e c d h) (λ e. refused-both m e c d);
-  again = λ m small k s.
-      either (formsDecoder m) (λ e. closed-again m small e k s)
-      (λ e. ap (λ (l : List ℕ). decoderResult l (calls.DecoderCall.close k s)) (stays m e (calls.DecoderCall.close k s)));
+  room-alone = λ m small s part b out lent same.
+      either (formsDecoder m) (λ e. same-room m small e s part b out lent same) (λ e. refused-room m e s part b out lent);
+  again = λ m small k s cs bytes. either (formsDecoder m) (λ e. closed-again m small e k s cs bytes) (λ e. refused-again m e k s cs);
 }

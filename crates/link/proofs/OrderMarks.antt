@@ -1,6 +1,6 @@
 -- Marks of finished parts, for the order of reports. A call only ever adds marks, and which it adds is a matter of the call and its answer: so the order
--- in which two calls add theirs does not count, nor does adding them again, and a call for another stream leaves a stream's marks alone.
--- Two streams share a word of marks, so memory is no proof of this: marks laid over memory twice are the second ones.
+-- in which two calls add theirs does not count, and a call for another stream leaves a stream's marks alone.
+-- 64 streams share a word of marks, so memory is no proof of this: marks laid over memory twice are the second ones.
 use mathlib.Core.Path.{_≡_, refl, sym, ap, fun-ext, _∙_}
 use Prim.Native.Nat.{ℕ}
 use native.Mathlib.Omega.{arith}
@@ -75,23 +75,15 @@ adds f (calls.DecoderCall.close k s) r t q = close-adds k (eqb (r .answer .numbe
 adds f (calls.DecoderCall.collect out) r t q = refl
 adds f (calls.DecoderCall.hold index) r t q = refl
 
--- ---- either order, and again
+-- ---- either order
 or-swap : (a b x : Bool) → (b || (a || x)) ≡ (a || (b || x))
 or-swap true true x = refl
 or-swap true false x = refl
 or-swap false b x = refl
 
-or-twice : (a x : Bool) → (a || (a || x)) ≡ (a || x)
-or-twice true x = refl
-or-twice false x = refl
-
-module _ (f : Marks) (c : DecoderCall) (r : Result) where
-  adds-two : (d : DecoderCall) (q : Result) (t : ℕ) (p : Part) → finishedBy (finishedBy f c r) d q t p ≡ (added d q t p || (added c r t p || f t p))
-  adds-two d q t p = adds (finishedBy f c r) d q t p ∙ ap (λ (b : Bool). added d q t p || b) (adds f c r t p)
-
-  pub marks-again : finishedBy (finishedBy f c r) c r ≡ finishedBy f c r
-  marks-again =
-      fun-ext (λ t. fun-ext (λ p. adds-two c r t p ∙ or-twice (added c r t p) (f t p) ∙ sym (adds f c r t p)))
+adds-two : (f : Marks) (c : DecoderCall) (r : Result) (d : DecoderCall) (q : Result) (t : ℕ) (p : Part)
+    → finishedBy (finishedBy f c r) d q t p ≡ (added d q t p || (added c r t p || f t p))
+adds-two f c r d q t p = adds (finishedBy f c r) d q t p ∙ ap (λ (b : Bool). added d q t p || b) (adds f c r t p)
 
 pub marks-swap : (f : Marks) (c : DecoderCall) (r : Result) (d : DecoderCall) (q : Result)
     → finishedBy (finishedBy f c r) d q ≡ finishedBy (finishedBy f d q) c r

@@ -54,18 +54,24 @@ unread-decoder : (D : Decoder) (number room : ℕ) → Tells room (decoderCall D
 unfolding decoderCall
 unread-decoder D number room = unread-tells D number room
 
-pub decoder-writes : (D : Decoder) (c : DecoderCall) → Writes (decoderLent c) (decoderCall D (decoderCallOf D c))
+-- a block, by its turn and its reading
+pub block-tells : (D : Decoder) (stream part : ℕ) (s out : List ℕ)
+    → Tells (length out) (decoderCall D (decoderCallOf D (calls.DecoderCall.block stream part s out)))
 unfolding decoderCallOf
-decoder-writes D (calls.DecoderCall.read s) = none-writes (decoderCall D (decoderCallOf D (calls.DecoderCall.read s)))
-decoder-writes D (calls.DecoderCall.block stream part s out) =
-    tells-writes out (decoderCall D (decoderCallOf D (calls.DecoderCall.block stream part s out)))
-    (pick-both (λ (x : at-decoder.DecoderCall). Tells (length out) (decoderCall D x)) (partTurn (D .finished) stream (partOf part))
+block-tells D stream part s out =
+    pick-both (λ (x : at-decoder.DecoderCall). Tells (length out) (decoderCall D x)) (partTurn (D .finished) stream (partOf part))
     (readBlockCall stream part (length out) (readBlock s)) (at-decoder.unread out-of-turn)
-    (λ e. go (readBlock s)) (λ e. unread-decoder D out-of-turn (length out)))
+    (λ e. go (readBlock s)) (λ e. unread-decoder D out-of-turn (length out))
   where
     go : (r : BlockRead) → Tells (length out) (decoderCall D (readBlockCall stream part (length out) r))
     go (blocks.BlockRead.block rs) = promises .decoded D stream part rs (length out)
     go (blocks.BlockRead.refused number) = unread-decoder D number (length out)
+
+pub decoder-writes : (D : Decoder) (c : DecoderCall) → Writes (decoderLent c) (decoderCall D (decoderCallOf D c))
+unfolding decoderCallOf
+decoder-writes D (calls.DecoderCall.read s) = none-writes (decoderCall D (decoderCallOf D (calls.DecoderCall.read s)))
+decoder-writes D (calls.DecoderCall.block stream part s out) =
+    tells-writes out (decoderCall D (decoderCallOf D (calls.DecoderCall.block stream part s out))) (block-tells D stream part s out)
 decoder-writes D (calls.DecoderCall.close k stream) = none-writes (decoderCall D (at-decoder.close k stream))
 decoder-writes D (calls.DecoderCall.collect out) = tells-writes out (decoderCall D (at-decoder.collect (length out))) (promises .collected D (length out))
 decoder-writes D (calls.DecoderCall.hold index) = none-writes (decoderCall D (at-decoder.hold index))

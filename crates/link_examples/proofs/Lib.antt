@@ -12,4 +12,4 @@ pub mod CallBytes
 pub mod Tables
 pub mod ExamplesClaim
 -- calls whose order counts
-pub mod OrdersClaim
+pub mod OrderCountsClaim

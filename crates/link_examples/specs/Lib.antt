@@ -1,3 +1,3 @@
--- Closed lists of calls on a link: Examples is the file to read. Orders has calls whose order counts.
+-- Closed lists of calls on a link: Examples is the file to read. OrderCounts has calls whose order counts.
 pub mod Examples
-pub mod Orders
+pub mod OrderCounts

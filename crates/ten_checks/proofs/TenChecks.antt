@@ -82,7 +82,7 @@ start-alike m limit low = ap (λ (r : Result). r .answer) (need-true (leb limit 
 
 -- after a start answered "done"
 module _ (m : List ℕ) (small : Small m) (limit : ℕ) (ok : startCall m limit .answer .number ≡ 0) where
-  stands : (cs : List DecoderCall) → allDecoderGiven cs ≡ true → StandsDecoder (since m limit cs) (stateSince limit cs)
+  pub stands : (cs : List DecoderCall) → allDecoderGiven cs ≡ true → StandsDecoder (since m limit cs) (stateSince limit cs)
   stands cs b = after-decoder (startCall m limit .memory) (startDecoder limit) (start-decoder m limit small ok) cs (all-decoder-given cs b)
 
   pub told-is : (cs : List DecoderCall) (c : DecoderCall) → allDecoderGiven cs ≡ true → decoderGiven c ≡ true
