@@ -1,5 +1,7 @@
 -- The laws of the claims.
 
+-- what the rules for the link refuse
+pub mod BrokenRules
 -- a call on memory and bytes is the model's call on the state that memory stands for; then lists of calls
 pub mod Lifted
 pub mod SmallStates

@@ -21,6 +21,8 @@ use Rattle.model_laws.specs.Link as model
 use Rattle.reply.specs.Result.{Result}
 use Rattle.link.specs.Calls as calls
 use Rattle.link.specs.Claims.{Event, Written, writtenIn, Accepted, NontrailersDone, Rules, Managed, Acknowledges}
+-- what the rules refuse is shown before anything is shown from them
+use Rattle.link.proofs.BrokenRules as refused
 use Rattle.link.proofs.Steps.{Unreadable, Step, byteOf, modelOf, bytes, modelled, OfferStep, ByteTold, byte-told, OfferedStep, ModelTold, model-told}
 use Rattle.link.proofs.StepHistories.{alike, alike-model, alike-bytes}
 use Rattle.link.proofs.StepBorders.{Split, split-steps, events-around, next-read, heard-next, acknowledgements, acked-next, at-acknowledge}
