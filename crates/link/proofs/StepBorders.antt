@@ -31,27 +31,27 @@ use Rattle.link.proofs.StepHistories.{said-acknowledged, management-sai
 
 -- ---- a list of steps and its lists of events
 
--- where an event stands among the steps
-pub record Split {X : Type 0} (f : Step → X) (ss : List Step) (xs : List X) (e : X) (ys : List X) : Type 0 where
-  pub before : List Step
-  pub step : Step
-  pub after : List Step
+-- where an event stands among the steps, or among whatever else the events are made of
+pub record Split {A X : Type 0} (f : A → X) (ss : List A) (xs : List X) (e : X) (ys : List X) : Type 0 where
+  pub before : List A
+  pub step : A
+  pub after : List A
   pub whole : ss ≡ before ++ (step ∷ after)
   pub front : map f before ≡ xs
   pub is : f step ≡ e
 
-pub split-steps : {X : Type 0} (f : Step → X) (ss : List Step) (xs : List X) (e : X) (ys : List X) → map f ss ≡ xs ++ (e ∷ ys) → Split f ss xs e ys
+pub split-steps : {A X : Type 0} (f : A → X) (ss : List A) (xs : List X) (e : X) (ys : List X) → map f ss ≡ xs ++ (e ∷ ys) → Split f ss xs e ys
 split-steps f [] [] e ys q = absurd (nil≢cons q)
 split-steps f [] (x ∷ xs) e ys q = absurd (nil≢cons q)
 split-steps f (s ∷ ss) [] e ys q =
     record { before = []; step = s; after = ss; whole = refl; front = refl; is = head-eq-of-cons-eq q }
-split-steps {X} f (s ∷ ss) (x ∷ xs) e ys q =
+split-steps {A} {X} f (s ∷ ss) (x ∷ xs) e ys q =
     let r = split-steps f ss xs e ys (tail-eq-of-cons-eq q) in
     record {
       before = s ∷ r .before;
       step = r .step;
       after = r .after;
-      whole = ap (λ (l : List Step). s ∷ l) (r .whole);
+      whole = ap (λ (l : List A). s ∷ l) (r .whole);
       front = ap₂ (λ (y : X) (l : List X). y ∷ l) (head-eq-of-cons-eq q) (r .front);
       is = r .is;
     }

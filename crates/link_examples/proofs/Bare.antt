@@ -16,7 +16,7 @@ use Rattle.link.specs.Claims.{managementOf, managementIn, readOf, readIn, ackno
 use Rattle.link.specs.Claims.{Written, writtenOf, writtenFrom, writtenIn}
 use Rattle.link_examples.specs.Examples.{Shown, call, shown}
 use Rattle.link_examples.proofs.ListTests.{any}
-use Rattle.link_examples.proofs.RulesCheck.{isAccepted, isDone, isReset, Past, past, keepsEvent, keepsFrom, keeps}
+use Rattle.link_examples.proofs.RulesCheck.{isAccepted, isDone, isReset, Past, past, keepsEvent, keepsFrom, keeps, keepsSoFar}
 
 -- ---- an event from what is shown of it: with no memory, and with no more output than was written
 abbrev bareResult : Answer → List ℕ → Result
@@ -179,14 +179,31 @@ same-past xs =
     cc
 
 -- ---- the test
-same-from : (ever : List Written) (before es : List Event) → keepsFrom ever (map again before) (map again es) ≡ keepsFrom ever before es
-same-from ever before [] = refl
-same-from ever before (e ∷ es) =
-    ap₂ _&&_ (ap (λ (P : Past). keepsEvent ever P (again e)) (same-past before) ∙ same-event ever (past before) e)
-    (ap (λ (l : List Event). keepsFrom ever l (map again es)) (sym (map-append again before (e ∷ []))) ∙ same-from ever (before ++ (e ∷ [])) es)
+module _ (ever-bare ever : List Event → List Written) (same-ever : (xs : List Event) → ever-bare (map again xs) ≡ ever xs) where
+  same-from : (before es : List Event) → keepsFrom ever-bare (map again before) (map again es) ≡ keepsFrom ever before es
+  same-from before [] = refl
+  same-from before (e ∷ es) =
+      ap₂ _&&_ (ap₂ (λ (w : List Written) (P : Past). keepsEvent w P (again e)) (same-ever before) (same-past before) ∙ same-event (ever before) (past before) e)
+      (ap (λ (l : List Event). keepsFrom ever-bare l (map again es)) (sym (map-append again before (e ∷ []))) ∙ same-from (before ++ (e ∷ [])) es)
 
 pub same-keeps : (es : List Event) → keeps (map bare (map shown es)) ≡ keeps es
 unfolding keeps
-same-keeps es =
-    rw (map-map bare shown es)
-    (ap (λ (w : List Written). keepsFrom w [] (map again es)) (same-written 0 es) ∙ same-from (writtenIn es) [] es)
+same-keeps es = rw (map-map bare shown es) (same-from (λ xs. writtenIn (map again es)) (λ xs. writtenIn es) (λ xs. same-written 0 es) [] es)
+
+pub same-so-far : (es : List Event) → keepsSoFar (map bare (map shown es)) ≡ keepsSoFar es
+unfolding keepsSoFar
+same-so-far es = rw (map-map bare shown es) (same-from (λ xs. writtenIn xs) (λ xs. writtenIn xs) (same-written 0) [] es)
+
+-- ---- what events say is said by what is shown of them
+module _ (xs : List Event) (t : List Shown) (e : map shown xs ≡ t) where
+  again-is : map again xs ≡ map bare t
+  again-is = sym (map-map bare shown xs) ∙ ap (map bare) e
+
+  pub written-shown : writtenIn xs ≡ writtenIn (map bare t)
+  written-shown = sym (same-written 0 xs) ∙ ap (λ (l : List Event). writtenIn l) again-is
+
+  pub accepted-shown : (n : ℕ) → any (isDone n) xs ≡ any (isDone n) (map bare t)
+  accepted-shown n = sym (same-accepted n xs) ∙ ap (any (isDone n)) again-is
+
+  pub reset-shown : (s : ℕ) → any (isReset s) xs ≡ any (isReset s) (map bare t)
+  reset-shown s = sym (same-reset s xs) ∙ ap (any (isReset s)) again-is

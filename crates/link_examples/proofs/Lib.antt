@@ -8,8 +8,9 @@ pub mod RulesSound
 pub mod Bare
 -- what is given and lent is bytes
 pub mod CallBytes
--- the three tables
+-- the tables
 pub mod Tables
 pub mod ExamplesClaim
+pub mod EverClaim
 -- calls whose order counts
 pub mod OrderCountsClaim

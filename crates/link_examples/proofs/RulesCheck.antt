@@ -100,11 +100,17 @@ keepsEvent ever P (byEncoder c r) = keepsWrite P c
 keepsEvent ever P (byDecoder n c r) = keepsRead ever P n c r
 keepsEvent ever P (Event.reset stream) = true
 
-abbrev pub keepsFrom : List Written → List Event → List Event → Bool
+-- events after others; `ever` says of the events before one which blocks it is judged by
+abbrev pub keepsFrom : (List Event → List Written) → List Event → List Event → Bool
 keepsFrom ever before [] = true
-keepsFrom ever before (e ∷ rest) = keepsEvent ever (past before) e && keepsFrom ever (before ++ (e ∷ [])) rest
+keepsFrom ever before (e ∷ rest) = keepsEvent (ever before) (past before) e && keepsFrom ever (before ++ (e ∷ [])) rest
 
 -- `unfolding keeps` unfolds all that the test computes with
 unfoldable pub keeps : List Event → Bool
 unfolding same at managementIn readIn acknowledgementsIn acknowledgedIn writtenFrom past
-keeps es = keepsFrom (writtenIn es) [] es
+keeps es = keepsFrom (λ xs. writtenIn es) [] es
+
+-- the same with "ever" read as "so far": each event is judged by the blocks written before it
+unfoldable pub keepsSoFar : List Event → Bool
+unfolding same at managementIn readIn acknowledgementsIn acknowledgedIn writtenFrom past
+keepsSoFar es = keepsFrom (λ xs. writtenIn xs) [] es
