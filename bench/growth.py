@@ -62,7 +62,7 @@ def deletes(run):
     listed = {**base, "listed": 16}
     rows = [("decoder, the test alone", "decoder-test", base), ("decoder, block of 8 literals", "decoder-literal", base),
             ("decoder, ended", "decoder-ended", base), ("decoder, collect, none ready", "decoder-collect", base),
-            ("decoder, hold enquiry", "decoder-hold", base), ("decoder, the test alone, 16 + 16 listed", "decoder-test", listed),
+            ("decoder, collect, all ready", "decoder-collect", {**base, "ready": 1}), ("decoder, hold enquiry", "decoder-hold", base), ("decoder, the test alone, 16 + 16 listed", "decoder-test", listed),
             ("decoder, collect, 16 + 16 listed", "decoder-collect", listed),
             ("encoder, the test alone", "encoder-test", base), ("encoder, block of 8 literals", "encoder-literal", base)]
 
@@ -71,7 +71,7 @@ def deletes(run):
 
     lines = call_table(run, "deletes", "Calls against deletes outstanding", ["deletes"] + DELETES, rows, places)
     plot(os.path.join(run.plots, "deletes.svg"), "Decoder calls, 128 entries in the table", "deletes outstanding",
-         "instructions per call", [(label.removeprefix("decoder, "), line) for label, line in lines[:7]], x_marks=DELETES[:1] + DELETES[2:])
+         "instructions per call", [(label.removeprefix("decoder, "), line) for label, line in lines[:8]], x_marks=DELETES[:1] + DELETES[2:])
 
 
 def horizons(run):

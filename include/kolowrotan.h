@@ -41,7 +41,7 @@ extern "C" {
 #endif
 
 /* The version of the library that this header belongs to: major, minor, patch. */
-#define KOLOWROTAN_VERSION "1.4.0"
+#define KOLOWROTAN_VERSION "1.5.0"
 
 /* The answers. */
 enum kolowrotan_answer {
@@ -174,8 +174,10 @@ uint64_t kolowrotan_decoder_over(uint8_t *memory, size_t memory_length, uint64_t
 uint64_t kolowrotan_decoder_ended(uint8_t *memory, size_t memory_length, uint64_t stream);
 
 /*
- * Frees the entry of lowest index that is under deletion and that no block can refer to any more, and writes its acknowledgement,
- * which goes to the encoder. First told: the bytes written, 0 where no entry is ready. Call it until it writes 0 bytes.
+ * Of the entries under deletion that no block can refer to any more, frees the one whose delete was read first, and writes its
+ * acknowledgement, which goes to the encoder. First told: the bytes written, 0 where no entry is ready. Call it until it writes 0
+ * bytes. An entry that is ready is acknowledged within 128 collects answered 0, whatever is called between them but a start. With
+ * less room than that one's acknowledgement takes the answer is 12, even if another's would fit: lend KOLOWROTAN_COLLECT_ROOM.
  * Answers: 17; 12; 0.
  */
 uint64_t kolowrotan_decoder_collect(uint8_t *memory, size_t memory_length, uint8_t *output, size_t output_length);

@@ -6,6 +6,7 @@
 #include <stdio.h>
 #include <string.h>
 
+#include "arrival.h"
 #include "calls.h"
 #include "full.h"
 #include "interim.h"
@@ -291,6 +292,7 @@ int main(int count, char **arguments)
     room();
     full();
     interim();
+    arrival();
     lists();
     /* valgrind takes what a call left on its stack as undefined */
     if (guard != 0)

@@ -13,7 +13,7 @@ use Rattle.static_search.specs.Search.{lowestName, lowestBoth, lowestStatic, ha
 use Rattle.fields.specs.Form.{fieldForm, textForm}
 use Rattle.blocks.specs.Representation.{Representation, literal, representationWire}
 use Rattle.blocks.proofs.Writing.{literal-length}
-use Rattle.model.specs.Table.{lowest}
+use Rattle.model.specs.Table.{first}
 use Rattle.model.specs.Encoder.{Sent, serves, servesBoth, chooseName, staticName, dynamicName, dynamicField, staticField, choose}
 use Rattle.encoder_fields.proofs.Within.{LowTable, choice-within}
 use Rattle.encoder_fields.proofs.Bound.{three}
@@ -34,7 +34,7 @@ rooms bytes fields = (refl, refl)
 
 -- what is chosen for the field beside that entry: its index in four bytes, and the value
 far-chosen : choose (farEntry ∷ []) farField ≡ literal 0 (by-index 16447) (times 127 88)
-unfolding choose staticField dynamicField chooseName staticName dynamicName servesBoth serves lowest lowestBoth lowestName lowestStatic hasBoth hasName same entries entryAt
+unfolding choose staticField dynamicField chooseName staticName dynamicName servesBoth serves first lowestBoth lowestName lowestStatic hasBoth hasName same entries entryAt
 far-chosen = refl
 
 needed : length (fieldForm farField) + 2 < length (representationWire (choose (farEntry ∷ []) farField))

@@ -54,6 +54,6 @@ endedCall m stream = need (formsDecoder m) (refused m [] no-state) (stepped over
 unfoldable pub holdCall : List ℕ → ℕ → Result
 holdCall m index = need (formsDecoder m) (refused m [] no-state) (stepped overlayDecoder m [] (enquireHold (decoderOf m) index))
 
--- "frees the ready entry of lowest index and writes its Delete-Ack".
+-- "Collect shall now free the ready entry whose delete arrived first" (request 14), and it "writes its Delete-Ack".
 unfoldable pub collectCall : List ℕ → List ℕ → Result
 collectCall m out = need (formsDecoder m) (refused m out no-state) (stepped overlayDecoder m out (collectEntry (decoderOf m) (length out)))

@@ -1,2 +1,2 @@
--- Which row's entry is ready.
+-- Which delete is ready, and which of them arrived first.
 pub mod Ready

@@ -1,2 +1,2 @@
-// The collect call: frees the ready entry of lowest index and writes its acknowledgement.
+// The collect call: frees the ready entry whose delete arrived first and writes its acknowledgement.
 pub mod collect;

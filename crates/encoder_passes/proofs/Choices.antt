@@ -17,7 +17,7 @@ use Rattle.static_search.specs.declared.search.StaticFound.the-variants.{At, No
 use Rattle.fields.specs.Form.{Field}
 use Rattle.blocks.specs.Representation.{Representation, indexed, literal}
 use Rattle.blocks.specs.Meaning.{blockReferences}
-use Rattle.model.specs.Table.{lowest}
+use Rattle.model.specs.Table.{first}
 use Rattle.model.specs.Parts.{Part, nontrailer, trailer, streams}
 use Rattle.model.specs.Encoder.{Sent, sentIndex, Encoder, mentions, referred, refer, serves, servesBoth}
 use Rattle.model.specs.Encoder.{dynamicName, staticName, chooseName, dynamicField, staticField, choose}
@@ -42,15 +42,15 @@ module _ (g : Sent → Sent) (index : (e : Sent) → g e .index ≡ e .index) (e
   unfolding servesBoth
   both-same name value e = ap₂ _&&_ (serves-same name e) (ap (λ (x : Entry). same (x .value) value) (entry e))
 
-  lowest-same : (test : Sent → Bool) → ((e : Sent) → test (g e) ≡ test e) → (l : List Sent)
-      → lowest sentIndex test (map g l) ≡ Option·map g (lowest sentIndex test l)
-  unfolding lowest
-  lowest-same test same [] = refl
-  lowest-same test same (e ∷ l) =
+  first-same : (test : Sent → Bool) → ((e : Sent) → test (g e) ≡ test e) → (l : List Sent)
+      → first sentIndex test (map g l) ≡ Option·map g (first sentIndex test l)
+  unfolding first
+  first-same test same [] = refl
+  first-same test same (e ∷ l) =
       rw (same e)
-      (pick-both (λ (o : Option Sent). pick (test e) (some (g e)) (lowest sentIndex test (map g l)) ≡ Option·map g o) (test e) (some e)
-      (lowest sentIndex test l)
-      (λ t. pick-true (test e) _ _ t) (λ t. pick-false (test e) _ _ t ∙ lowest-same test same l))
+      (pick-both (λ (o : Option Sent). pick (test e) (some (g e)) (first sentIndex test (map g l)) ≡ Option·map g o) (test e) (some e)
+      (first sentIndex test l)
+      (λ t. pick-true (test e) _ _ t) (λ t. pick-false (test e) _ _ t ∙ first-same test same l))
 
   module _ (l : List Sent) where
     name-same : (name : List ℕ) → chooseName (map g l) name ≡ chooseName l name
@@ -63,7 +63,7 @@ module _ (g : Sent → Sent) (index : (e : Sent) → g e .index ≡ e .index) (e
 
         go : (o : StaticFound) → staticName (map g l) name o ≡ staticName l name o
         go (At j) = refl
-        go Nothing = ap (dynamicName name) (lowest-same (serves name) (serves-same name) l) ∙ dynamic (lowest sentIndex (serves name) l)
+        go Nothing = ap (dynamicName name) (first-same (serves name) (serves-same name) l) ∙ dynamic (first sentIndex (serves name) l)
 
     choose-same : (f : Field) → choose (map g l) f ≡ choose l f
     unfolding choose staticField dynamicField
@@ -80,8 +80,8 @@ module _ (g : Sent → Sent) (index : (e : Sent) → g e .index ≡ e .index) (e
         go : (o : StaticFound) → staticField (map g l) f o ≡ staticField l f o
         go (At j) = refl
         go Nothing =
-            ap (dynamicField (map g l) f) (lowest-same (servesBoth (f .name) (f .value)) (both-same (f .name) (f .value)) l)
-            ∙ dynamic (lowest sentIndex (servesBoth (f .name) (f .value)) l)
+            ap (dynamicField (map g l) f) (first-same (servesBoth (f .name) (f .value)) (both-same (f .name) (f .value)) l)
+            ∙ dynamic (first sentIndex (servesBoth (f .name) (f .value)) l)
 
 referred-deleted : (s : ℕ) (p : Part) (e : Sent) → referred s p e .deleted ≡ e .deleted
 unfolding referred

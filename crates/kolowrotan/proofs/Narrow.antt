@@ -25,7 +25,7 @@ use Rattle.model.specs.Table.{size, look}
 use Rattle.model.specs.Parts.{Part, partOf, Closing, over, ended, inTurn, Delete, streams}
 use Rattle.model.specs.Outcome.{Outcome, refuse}
 use Rattle.model.specs.Decoder.{Decoder, heldIndex, heldSize, lookup, deleteOf, nameBytes, isSome, insertNamed, deleteEntry, readInstruction}
-use Rattle.model.specs.Decoder.{giveFields, decodePart, decodeBlock, closeParts, holdOf, enquireHold, Held, nextFreed, freeEntry, collectEntry}
+use Rattle.model.specs.Decoder.{giveFields, decodePart, decodeBlock, closeParts, holdOf, enquireHold, nextFreed, freeEntry, collectEntry}
 use Rattle.state.specs.Layout.{decoderLength}
 use Rattle.state.specs.DecoderState.{decoderOf, overlayDecoder}
 use Rattle.state.specs.Forms.{formsDecoder}
@@ -97,9 +97,9 @@ collect-narrow : (D : Decoder) (room : ℕ) → Narrow (collectEntry D room .ans
 unfolding collectEntry freeEntry
 collect-narrow D room = go (nextFreed D)
   where
-    go : (o : Option Held) → Narrow (freeEntry D room o .answer)
+    go : (o : Option ℕ) → Narrow (freeEntry D room o .answer)
     go none = omega arith
-    go (some h) = step (leb (length (instructionWire (acknowledge (h .index)))) room) _ _ _ (omega arith)
+    go (some i) = step (leb (length (instructionWire (acknowledge i))) room) _ _ _ (omega arith)
 
 -- ---- the decoder's calls
 

@@ -140,14 +140,13 @@ module _ (D : Decoder) (F : FormsDecoder D) where
 
 -- ---- an entry freed: the acknowledgement's bytes are told
 
-free-says : (D : Decoder) (out : List ℕ) (o : Option Held) → Says (collecting out) (freeEntry D (length out) o)
+free-says : (D : Decoder) (out : List ℕ) (o : Option ℕ) → Says (collecting out) (freeEntry D (length out) o)
 unfolding freeEntry
 free-says D out none = first-says (collecting out) D 0 nothing refl refl (omega arith) (omega arith)
-free-says D out (some h) =
-    let n : ℕ = length (instructionWire (acknowledge (h .index))) in
+free-says D out (some i) =
+    let n : ℕ = length (instructionWire (acknowledge i)) in
     refusing (collecting out) D (leb n (length out)) no-room tt
-    (λ f. first-says (collecting out) (without D (h .index)) n (instruction (acknowledge (h .index))) refl refl (leb-true _ _ f)
-    (omega (arith, acknowledge-length (h .index))))
+    (λ f. first-says (collecting out) (without D i) n (instruction (acknowledge i)) refl refl (leb-true _ _ f) (omega (arith, acknowledge-length i)))
 
 -- ---- the enquiry: both numbers are told
 

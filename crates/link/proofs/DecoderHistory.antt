@@ -25,11 +25,11 @@ use Rattle.blocks.specs.Reading as blocks
 use Rattle.model.specs.Table.{look, total}
 use Rattle.model.specs.Parts.{partOf, Marks, noMarks, Delete}
 use Rattle.model.specs.Outcome.{Outcome, outputBytes}
-use Rattle.model.specs.Decoder.{Decoder, Held, heldIndex, heldSize, slotIn, deleteOf, startDecoder, nextFreed, ready, FormsDecoder}
+use Rattle.model.specs.Decoder.{Decoder, heldSize, slotIn, deleteOf, startDecoder, ready, FormsDecoder}
 use Rattle.model.specs.DecoderCalls.{decoderCall, afterDecoder}
 use Rattle.model.specs.DecoderCalls as at-decoder
 use Rattle.model.specs.Happened.{Happened, doneBy, after, heldBy, deletionBy, Contents, empty, isHeld, contentsBy, addedBy, removedBy, sumOf}
-use Rattle.model_laws.proofs.Tables.{lowest-sound}
+use Rattle.model_laws.proofs.Forms.{freed-held}
 use Rattle.model_laws.proofs.DecoderWays.{collect-ways}
 use Rattle.model_laws.proofs.DecoderHistory.{wroteThat, didBy, didSince, contentsOf, Told, told-calls}
 use Rattle.model_laws.proofs.Collecting.{held-index}
@@ -91,12 +91,10 @@ one-acknowledged i fine =
 
 collect-did : (D : Decoder) → FormsDecoder D → (room : ℕ)
     → acknowledged (outputBytes (decoderCall D (at-decoder.collect room) .output)) ≡ wroteThat (decoderCall D (at-decoder.collect room) .output)
-unfolding decoderCall outputBytes wroteThat nextFreed
+unfolding decoderCall outputBytes wroteThat
 collect-did D F room =
     collect-ways (λ o. acknowledged (outputBytes (o .output)) ≡ wroteThat (o .output)) D (λ a z. nothing-acknowledged) room (λ e. nothing-acknowledged)
-    (λ h e fits.
-    let found = lowest-sound heldIndex (λ (x : Held). ready D (x .index)) 62 (D .entries) h (F .order) e in
-    one-acknowledged (h .index) (held-index D F (h .index) h (found .0)))
+    (λ i e fits. let h = freed-held D F i e in one-acknowledged i (held-index D F i (h .0) (h .1)))
 
 -- ---- every call, and lists of them
 pub happened-same : (m : List ℕ) (D : Decoder) → StandsDecoder m D → (c : DecoderCall) → LiftedDecoder D c (decoderResult m c)
@@ -165,11 +163,12 @@ module _ (m : List ℕ) (D : Decoder) (h : StandsDecoder m D) (cs : List Decoder
       ∙ ap (λ (x : Option Delete). holdAnswer (isHeld (contentsOf D′ i)) x f i) (told .deletion i)
       ∙ ap (λ (g : Marks). holdAnswer (isHeld (contentsOf D′ i)) (deleteOf D′ i) g i) finished-now
 
-  pub agrees : Agrees m (contentsOf D) (deleteOf D) (D .finished) cs
+  pub agrees : Agrees m (contentsOf D) (deleteOf D) (D .deletes) (D .finished) cs
   agrees = record {
     entries = λ i. ap (λ (C : Decoder). contentsOf C i) (stands .state) ∙ sym (ap (λ (t : Contents). t i) (told .entries));
     held = λ i. ap (λ (C : Decoder). isHeld (contentsOf C i)) (stands .state) ∙ sym (told .held i);
     deletion = λ i. ap (λ (C : Decoder). deleteOf C i) (stands .state) ∙ sym (told .deletion i);
+    arrived = ap (λ (C : Decoder). C .deletes) (stands .state) ∙ sym (told .arrived);
     enquiry = λ i. (enquiry-ready (decoderAfter m cs) D′ stands i, ready-enquiry (decoderAfter m cs) D′ stands i);
     parts = λ s p. ap (λ (C : Decoder). C .finished s p) (stands .state) ∙ sym (ap (λ (f : Marks). f s p) finished-now);
     hold = λ i. answer-hold (decoderAfter m cs) D′ stands i ∙ hold-answer D′ i ∙ sym (hold-now i);
@@ -191,7 +190,7 @@ module _ (m : List ℕ) (D : Decoder) (h : StandsDecoder m D) (cs : List Decoder
 
 -- ---- from a start, and from other memory that forms a state
 module _ (m : List ℕ) (limit : ℕ) (small : Small m) (started : startCall m limit .answer .number ≡ 0) (cs : List DecoderCall) (b : AllDecoderBytes cs) where
-  pub agree-start : Agrees (startCall m limit .memory) empty (λ i. none) noMarks cs
+  pub agree-start : Agrees (startCall m limit .memory) empty (λ i. none) [] noMarks cs
   unfolding startDecoder look slotIn deleteOf
   agree-start = agrees (startCall m limit .memory) (startDecoder limit) (start-decoder m limit small started) cs b
 
@@ -201,5 +200,5 @@ module _ (m : List ℕ) (limit : ℕ) (small : Small m) (started : startCall m l
   held-start = sizes (startCall m limit .memory) (startDecoder limit) (start-decoder m limit small started) cs b ∙ zero-add (sumOf addedBy empty (history (startCall m limit .memory) cs))
 
 pub agree-state : (m : List ℕ) → Small m → formsDecoder m ≡ true → (cs : List DecoderCall) → AllDecoderBytes cs
-    → Agrees m (contentsIn m) (deleteOf (decoderOf m)) (decoderOf m .finished) cs
+    → Agrees m (contentsIn m) (deleteOf (decoderOf m)) (decoderOf m .deletes) (decoderOf m .finished) cs
 agree-state m small forms cs b = agrees m (decoderOf m) (stands-self-decoder m small forms) cs b

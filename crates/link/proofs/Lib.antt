@@ -45,6 +45,8 @@ pub mod OrderClaim
 -- demand 3, before "Hence"
 pub mod StillAccepted
 pub mod ReadyClaim
+-- request 14: no deletion forgotten
+pub mod CollectsClaim
 -- demand 3, from "Hence" on: instructions one after another, byte events beside the model's, the rules and what follows
 pub mod Wires
 pub mod Steps

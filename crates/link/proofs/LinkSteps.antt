@@ -223,8 +223,8 @@ module _ (S : Ends) (M : model.Ends) (J : Joined S M) where
       (λ a z e l. idle-step c (quiet-collect n out r (done-none r (ap (λ (x : Answer). eqb (x .number) 0) (l .answer) ∙ z))))
       (length out)
       (λ idle e l. idle-step c (quiet-collect n out r (done-some r out [] 0 (omega arith) (l .answer) (l .output))))
-      (λ h next room e l.
-      freed-tied n out r (h .index) (ack-fine D (at-decoder.collect (length out)) F (acknowledge (h .index)) (ap (λ (o : Outcome Decoder). o .output) e))
+      (λ i next room e l.
+      freed-tied n out r i (ack-fine D (at-decoder.collect (length out)) F (acknowledge i) (ap (λ (o : Outcome Decoder). o .output) e))
       (done-some r out _ 0 room (l .answer) (l .output)))
       refl
 

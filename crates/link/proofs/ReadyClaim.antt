@@ -1,14 +1,14 @@
 -- Demand 3, what stands before "Hence", on memory and bytes: after every list of calls, from a start and from all memory that forms a state.
 -- From the model's, of the state that memory stands for.
-use mathlib.Core.Path.{_≡_, refl, ap, _∙_, subst, fun-ext}
+use mathlib.Core.Path.{_≡_, refl, ap, _∙_, subst₂, fun-ext}
 use mathlib.Core.Logic.{⊎-elim}
 use Prim.Native.Nat.{ℕ}
 use mathlib.Core.Bool.{true}
-use mathlib.Core.Option.{Option, none, some}
+use mathlib.Core.Option.{Option, some}
 use mathlib.Core.List.{List, [], _∷_, List·Memᴰ·head}
 use lib.ListN.{length}
 use Rattle.memory.specs.Bytes.{Small}
-use Rattle.memory.proofs.Order.{either}
+use Rattle.memory.proofs.Order.{either, not-both}
 use Rattle.integers.specs.Answers.{done, no-room}
 use Rattle.blocks.specs.Representation.{Representation, indexed, blockWire}
 use Rattle.blocks.specs.Reading.{block, readBlock}
@@ -17,11 +17,11 @@ use Rattle.model.specs.Parts.{Part, nontrailer, trailer, Delete, namesPart, isR
 use Rattle.model.specs.Outcome.{Outcome, outputBytes}
 use Rattle.model.specs.Decoder.{Decoder, deleteOf, readyDelete, ready, FormsDecoder}
 use Rattle.model.specs.DecoderCalls.{decoderCall, collect}
-use Rattle.model_laws.specs.Ready.{LowestReady}
+use Rattle.model_laws.specs.Ready.{FirstReady}
 use Rattle.model_laws.specs.Ready as model
-use Rattle.model_laws.proofs.Tables.{nope}
 use Rattle.model_laws.proofs.Marks.{OpenPart, ready-or}
-use Rattle.model_laws.proofs.Collecting.{delete-held, held-index, held-slot}
+use Rattle.model_laws.proofs.Forms.{delete-held, ready-delete}
+use Rattle.model_laws.proofs.Collecting.{held-index, held-slot}
 use Rattle.model_laws.proofs.Ready.{ready-half}
 use Rattle.state.specs.DecoderState.{decoderOf, overlayDecoder}
 use Rattle.state.specs.Forms.{formsDecoder}
@@ -109,8 +109,8 @@ module _ (m : List ℕ) (small : Small m) (forms : formsDecoder m ≡ true) wher
       collected out _ (half .none-ready (λ i. either (ready D i) (λ r. absurd (idle i (is-ready i r))) (λ r. r)) (length out))
       ∙ ap (λ (l : List ℕ). record { answer = done 0 0; memory = l; output = out }) (decoder-laws .self m small forms)
 
-  -- the ready entry of lowest index is freed
-  frees : (k : ℕ) → ready D k ≡ true → (i : ℕ) × LowestReady D i × Frees m i
+  -- the ready entry whose delete arrived first is freed
+  frees : (k : ℕ) → ready D k ≡ true → (d : Delete) × FirstReady D d × Frees m (d .index)
   unfolding stepped outputBytes
   frees k now =
       let one = half .one-ready k now in (
@@ -122,35 +122,39 @@ module _ (m : List ℕ) (small : Small m) (forms : formsDecoder m ≡ true) wher
         },
       )
 
-  -- an entry that is ready is under deletion
-  deleted : (i : ℕ) → ready D i ≡ true → (d : Delete) × (deleteOf D i ≡ some d)
-  unfolding ready readyDelete
-  deleted i = go (deleteOf D i)
-    where
-      go : (o : Option Delete) → readyDelete (D .finished) o ≡ true → (d : Delete) × (o ≡ some d)
-      go none r = nope (cc)
-      go (some d) r = (d, refl)
-
-  pub ready-memory : ReadyHalf m (deleteOf D)
+  pub ready-memory : ReadyHalf m (deleteOf D) (D .deletes)
   ready-memory = record {
     exactly = λ i d e. (λ r. ready-unreachable i d e (by-state i r), λ out. is-ready i (unreachable-ready i d e out));
     none-ready = none-ready;
     one-ready = λ k r.
         let f = frees k (by-state k r) in
-        let d = deleted (f .0) (f .1 .ready-now) in
-        (f .0, d .0, d .1, is-ready (f .0) (f .1 .ready-now), f .2);
-    lowest-freed = λ k r. let f = frees k (by-state k r) in (f .0, f .2, λ j s. f .1 .first j (by-state j s));
+        let i = f .0 .index in
+        let d = ready-delete D F i (f .1 .ready-now) in
+        (i, d .0, d .1, is-ready i (f .1 .ready-now), f .2);
+    first-freed = λ k r.
+        let f = frees k (by-state k r) in
+        let n = f .1 in (
+          n .before,
+          f .0,
+          n .behind,
+          n .arrived,
+          is-ready (f .0 .index) (n .ready-now),
+          f .2,
+          λ e there now. not-both (ready D (e .index)) (by-state (e .index) now) (n .none-before e there),
+        );
   }
 
--- the deletions by history are those of memory
-ready-after : (m : List ℕ) (D : Decoder) → StandsDecoder m D → (deletions : ℕ → Option Delete) → ((i : ℕ) → deleteOf (decoderOf m) i ≡ deletions i)
-    → ReadyHalf m deletions
-ready-after m D h deletions same = subst (ReadyHalf m) (fun-ext same) (ready-memory m (h .small) (h .forms))
+-- the deletions by history are those of memory, and so is the order in which they arrived
+ready-after : (m : List ℕ) (D : Decoder) → StandsDecoder m D → (deletions : ℕ → Option Delete) (arrived : List Delete)
+    → ((i : ℕ) → deleteOf (decoderOf m) i ≡ deletions i) → decoderOf m .deletes ≡ arrived → ReadyHalf m deletions arrived
+ready-after m D h deletions arrived same order = subst₂ (ReadyHalf m) (fun-ext same) order (ready-memory m (h .small) (h .forms))
 
 pub ready-claim : ReadyClaim
 ready-claim = record {
   from-start = λ m limit small started cs bytes.
-      ready-after _ _ (after-decoder _ _ (start-decoder m limit small started) cs bytes) _ (agree-start m limit small started cs bytes .deletion);
+      let agree = agree-start m limit small started cs bytes in
+      ready-after _ _ (after-decoder _ _ (start-decoder m limit small started) cs bytes) _ _ (agree .deletion) (agree .arrived);
   from-state = λ m small forms cs bytes.
-      ready-after _ _ (after-decoder m _ (stands-self-decoder m small forms) cs bytes) _ (agree-state m small forms cs bytes .deletion);
+      let agree = agree-state m small forms cs bytes in
+      ready-after _ _ (after-decoder m _ (stands-self-decoder m small forms) cs bytes) _ _ (agree .deletion) (agree .arrived);
 }

@@ -121,7 +121,7 @@ decoder-bytes D S (at-decoder.block s part rs room) b =
     decoder.block-ways HeldBytes D (λ a z. S) s part rs room (λ p fs e below turn m fits. S)
 decoder-bytes D S (at-decoder.close k s) b = decoder.close-ways HeldBytes D (λ a z. S) k s (λ below. S)
 decoder-bytes D S (at-decoder.collect room) b =
-    decoder.collect-ways HeldBytes D (λ a z. S) room (λ e. S) (λ h e f. each-cut SmallHeld heldIndex (h .index) (D .entries) S)
+    decoder.collect-ways HeldBytes D (λ a z. S) room (λ e. S) (λ i e f. each-cut SmallHeld heldIndex i (D .entries) S)
 decoder-bytes D S (at-decoder.hold i) b = decoder.hold-ways HeldBytes D (λ a z. S) i (λ d e. S)
 decoder-bytes D S (at-decoder.unread number) b = S
 

@@ -8,17 +8,17 @@ use Rattle.memory.specs.Bytes.{Small}
 use Rattle.instructions.specs.Instruction.{insert, delete, acknowledge}
 use Rattle.model.specs.Table.{size, look, total}
 use Rattle.model.specs.Outcome.{Outcome}
-use Rattle.model.specs.Decoder.{Decoder, Held, heldIndex, heldSize, startDecoder, nextFreed, ready, without, FormsDecoder}
+use Rattle.model.specs.Decoder.{Decoder, Held, heldIndex, heldSize, startDecoder, without, FormsDecoder}
 use Rattle.model.specs.DecoderCalls.{decoderCall, afterDecoder}
 use Rattle.model.specs.DecoderCalls as at-decoder
 use Rattle.model.specs.Encoder.{Encoder, Sent, sentIndex, sentSize, startEncoder, markDeleted, refer, newSent}
 use Rattle.model.specs.EncoderCalls.{encoderCall, afterEncoder}
 use Rattle.model.specs.EncoderCalls as at-encoder
 use Rattle.model_laws.specs.Ready.{FineCalls}
-use Rattle.model_laws.proofs.Tables.{look-index, total-put, total-cut, total-map, lowest-sound}
+use Rattle.model_laws.proofs.Tables.{look-index, total-put, total-cut, total-map}
 use Rattle.model_laws.proofs.Order.{delete-index, refer-index}
 use Rattle.model_laws.proofs.SentChanges.{delete-entry, refer-entry}
-use Rattle.model_laws.proofs.Forms.{forms-start, forms-call}
+use Rattle.model_laws.proofs.Forms.{freed-held, forms-start, forms-call}
 use Rattle.model_laws.proofs.DecoderWays as decoding
 use Rattle.model_laws.proofs.EncoderWays as encoding
 use Rattle.state.specs.Layout.{heldOf}
@@ -43,7 +43,7 @@ module _ (limit : ℕ) (D : Decoder) (F : FormsDecoder D) (W : Within limit D) w
   Stays o = Within limit (o .state)
 
   within-call : (c : at-decoder.DecoderCall) → Stays (decoderCall D c)
-  unfolding decoderCall without nextFreed heldSize
+  unfolding decoderCall without heldSize
   within-call (at-decoder.read (insert i name value) taken) =
       decoding.insert-ways Stays D (λ a z. W) i name value taken
       (λ xs e n fits. record {
@@ -58,9 +58,9 @@ module _ (limit : ℕ) (D : Decoder) (F : FormsDecoder D) (W : Within limit D) w
   within-call (at-decoder.close k s) = decoding.close-ways Stays D (λ a z. W) k s (λ low. record { held = W .held; same = W .same })
   within-call (at-decoder.collect room) =
       decoding.collect-ways Stays D (λ a z. W) room (λ e. W)
-      (λ h e f.
-      let g = lowest-sound heldIndex (λ (x : Held). ready D (x .index)) 62 (D .entries) h (F .order) e in
-      record { held = omega (arith, total-cut heldIndex heldWeight (h .index) (D .entries) h (g .0), W .held); same = W .same })
+      (λ i e f.
+      let h = freed-held D F i e in
+      record { held = omega (arith, total-cut heldIndex heldWeight i (D .entries) (h .0) (h .1), W .held); same = W .same })
   within-call (at-decoder.hold i) = decoding.hold-ways Stays D (λ a z. W) i (λ d e. W)
   within-call (at-decoder.unread number) = W
 

@@ -18,7 +18,7 @@ use Rattle.blocks.specs.Reading.{block, readBlock}
 use Rattle.blocks.specs.Meaning.{Refers}
 use Rattle.model.specs.Parts.{Part, nontrailer, trailer, partNumber, over, ended, Delete}
 use Rattle.model.specs.Decoder.{deleteOf, without}
-use Rattle.model.specs.Happened.{Happened, after, heldBy, deletionBy}
+use Rattle.model.specs.Happened.{Happened, after, heldBy, deletionBy, deletesBy}
 use Rattle.model.specs.Events.{at}
 use Rattle.state.specs.Forms.{formsDecoder}
 use Rattle.state.specs.DecoderState.{decoderOf, overlayDecoder}
@@ -67,8 +67,9 @@ abbrev pub NamedPart : Delete → ℕ → Part → Type 0
 NamedPart d s nontrailer = names (d .nontrailer) s ≡ true
 NamedPart d s trailer = names (d .trailer) s ≡ true
 
--- of the memory m that a list of calls left; `deletions` gives the deletion that each slot is under, by those calls
-pub record ReadyHalf (m : List ℕ) (deletions : ℕ → Option Delete) : Type 0 where
+-- of the memory m that a list of calls left; by those calls `deletions` gives the deletion that each slot is under, and `arrived` has the deletes done and
+-- not freed, in the order in which they were read
+pub record ReadyHalf (m : List ℕ) (deletions : ℕ → Option Delete) (arrived : List Delete) : Type 0 where
   -- "a slot under deletion is ready to be freed exactly when no block that could still be accepted, in a part of a stream that the deletion
   -- names, might refer to it"
   pub exactly : (i : ℕ) (d : Delete) → deletions i ≡ some d
@@ -78,17 +79,21 @@ pub record ReadyHalf (m : List ℕ) (deletions : ℕ → Option Delete) : Type 0
   -- "A collect with room for its answer then frees one exactly when one is ready": it frees one that is under deletion and ready
   pub none-ready : ((i : ℕ) → Ready m i → ⊥) → (out : List ℕ) → collectCall m out ≡ record { answer = done 0 0; memory = m; output = out }
   pub one-ready : (k : ℕ) → Ready m k → (i : ℕ) × (d : Delete) × (deletions i ≡ some d) × Ready m i × Frees m i
-  -- which: "the ready entry of lowest index"
-  pub lowest-freed : (k : ℕ) → Ready m k → (i : ℕ) × Frees m i × ((j : ℕ) → Ready m j → i ≤ j)
+  -- which: "the ready entry whose delete arrived first"
+  pub first-freed : (k : ℕ) → Ready m k
+      → (before : List Delete) × (d : Delete) × (behind : List Delete) × (arrived ≡ before ++ (d ∷ behind)) × Ready m (d .index) × Frees m (d .index)
+      × ((e : Delete) → List·Memᴰ e before → Ready m (e .index) → ⊥)
 
 -- "For every list of decoder calls from a fresh table .. after it"; "What stands before "Hence" also holds from other memory that forms a state",
--- where a deletion begins with what that memory holds.
+-- where deletions begin with what that memory holds.
 pub record ReadyClaim : Type 0 where
   pub from-start : (m : List ℕ) (limit : ℕ) → Small m → decoder.startCall m limit .answer .number ≡ 0
       → (cs : List DecoderCall) → AllDecoderBytes cs
       → ReadyHalf (decoderAfter (decoder.startCall m limit .memory) cs) (λ i. after (deletionBy i) none (history (decoder.startCall m limit .memory) cs))
+      (after deletesBy [] (history (decoder.startCall m limit .memory) cs))
   pub from-state : (m : List ℕ) → Small m → formsDecoder m ≡ true → (cs : List DecoderCall) → AllDecoderBytes cs
       → ReadyHalf (decoderAfter m cs) (λ i. after (deletionBy i) (deleteOf (decoderOf m) i) (history m cs))
+      (after deletesBy (decoderOf m .deletes) (history m cs))
 
 -- ==== demand 3, from "Hence" on: one list that interleaves both ends
 

@@ -27,7 +27,7 @@ use Rattle.model.specs.Table.{look}
 use Rattle.model.specs.Parts.{Part, nontrailer, trailer, partOf, partNumber, Marks, noMarks, blockMarks, closed, Delete, openBelow, lowestOpen, streams}
 use Rattle.model.specs.Decoder.{heldIndex, slotIn, deleteOf, ready}
 use Rattle.model.specs.Encoder.{mentions, emptyList}
-use Rattle.model.specs.Happened.{Happened, inserted, deleted, freed, after, heldBy, deletionBy, contentsBy, Contents, empty, isHeld, addedBy, removedBy, sumOf}
+use Rattle.model.specs.Happened.{Happened, inserted, deleted, freed, after, heldBy, deletionBy, deletesBy, contentsBy, Contents, empty, isHeld, addedBy, removedBy, sumOf}
 use Rattle.state.specs.Layout.{heldOf}
 use Rattle.state.specs.DecoderState.{decoderOf}
 use Rattle.state.specs.EncoderState.{encoderOf}
@@ -94,14 +94,16 @@ Lawful held deletions (inserted i name value ∷ xs) = (held i ≡ false) × Law
 Lawful held deletions (deleted d ∷ xs) = (held (d .index) ≡ true) × (deletions (d .index) ≡ none) × Lawful held deletions xs
 Lawful held deletions (freed i ∷ xs) = ⊥
 
--- history and table agree, after calls from the memory m, of which `contents`, `deletions` and `finished` are what it holds
-pub record Agrees (m : List ℕ) (contents : Contents) (deletions : ℕ → Option Delete) (finished : Marks) (cs : List DecoderCall) : Type 0 where
+-- history and table agree, after calls from the memory m, of which `contents`, `deletions`, `deletes` and `finished` are what it holds
+pub record Agrees (m : List ℕ) (contents : Contents) (deletions : ℕ → Option Delete) (deletes : List Delete) (finished : Marks) (cs : List DecoderCall) : Type 0 where
   -- the entry at each index, name and value
   pub entries : (i : ℕ) → contentsIn (decoderAfter m cs) i ≡ after contentsBy contents (history m cs) i
   -- held or empty
   pub held : (i : ℕ) → isHeld (contentsIn (decoderAfter m cs) i) ≡ after (heldBy i) (isHeld (contents i)) (history m cs)
   -- the deletion, with its lists
   pub deletion : (i : ℕ) → deleteOf (decoderOf (decoderAfter m cs)) i ≡ after (deletionBy i) (deletions i) (history m cs)
+  -- the deletes of memory are the done deletes in the order read, less the freed
+  pub arrived : decoderOf (decoderAfter m cs) .deletes ≡ after deletesBy deletes (history m cs)
   -- the finished parts
   pub parts : (s : ℕ) (p : Part) → decoderOf (decoderAfter m cs) .finished s p ≡ finishedAfter finished m cs s p
   -- what the enquiry tells, by history
@@ -242,9 +244,9 @@ pub record EncoderHistory (m : List ℕ) (cs : List EncoderCall) : Type 0 where
 pub record HistoriesClaim : Type 0 where
   -- history and table agree at the decoder, from a start and from other memory that forms a state
   pub agree-start : (m : List ℕ) (limit : ℕ) → Small m → decoder.startCall m limit .answer .number ≡ 0 → (cs : List DecoderCall) → AllDecoderBytes cs
-      → Agrees (decoder.startCall m limit .memory) empty (λ i. none) noMarks cs
+      → Agrees (decoder.startCall m limit .memory) empty (λ i. none) [] noMarks cs
   pub agree-state : (m : List ℕ) → Small m → formsDecoder m ≡ true → (cs : List DecoderCall) → AllDecoderBytes cs
-      → Agrees m (contentsIn m) (deleteOf (decoderOf m)) (decoderOf m .finished) cs
+      → Agrees m (contentsIn m) (deleteOf (decoderOf m)) (decoderOf m .deletes) (decoderOf m .finished) cs
   -- "At every moment it equals the sizes of all inserts done less the sizes of all entries freed since the start."
   pub decoder-held : (m : List ℕ) (limit : ℕ) → Small m → decoder.startCall m limit .answer .number ≡ 0 → (cs : List DecoderCall) → AllDecoderBytes cs
       → heldOf (decoderAfter (decoder.startCall m limit .memory) cs) + sumOf removedBy empty (history (decoder.startCall m limit .memory) cs)

@@ -18,7 +18,7 @@ use Rattle.instructions.specs.Reading.{readIndex, readInsert, readDelete, readA
 use Rattle.blocks.specs.Representation.{representationWire, blockWire}
 use Rattle.blocks.specs.Reading.{readIndexed, readLiteral, readRepresentation, blockFrom, readBlock}
 use Rattle.blocks.specs.Meaning.{isStatic, withStatics, fieldMeaning, blockMeaning, blockReferences}
-use Rattle.model.specs.Table.{size, look, put, cut, lowest, vacantFrom, total}
+use Rattle.model.specs.Table.{size, look, put, cut, first, vacantFrom, total}
 use Rattle.model.specs.Parts.{partOf, mark, markBoth, blockMarks, inTurn, namesPart, isOpen, openBelow, lowestOpen, isReady}
 use Rattle.model.specs.Outcome.{outputBytes}
 use Rattle.model.specs.Decoder.{heldSize, slotIn, lookup, deleteOf, startDecoder, slotName, nameBytes, insertNamed, deleteEntry}
@@ -43,7 +43,7 @@ unfolding same readInt groups intWire groupWire codes codeOf bitsOf valueOf bits
     entries entryAt hasName hasBoth lowest-static lowestName lowestBoth textForm fieldForm listForm readLength readText readField fieldsFrom
     instructionWire readIndex readInsert readDelete readAcknowledgement readForDecoder readForEncoder
     representationWire blockWire readIndexed readLiteral readRepresentation blockFrom readBlock isStatic withStatics fieldMeaning blockMeaning blockReferences
-    size look put cut lowest vacantFrom total partOf mark markBoth blockMarks inTurn namesPart isOpen openBelow lowestOpen isReady outputBytes
+    size look put cut first vacantFrom total partOf mark markBoth blockMarks inTurn namesPart isOpen openBelow lowestOpen isReady outputBytes
     heldSize slotIn lookup deleteOf startDecoder slotName nameBytes insertNamed deleteEntry readInstruction giveFields decodePart decodeBlock
     closeParts readyDelete ready nextFreed without freeEntry collectEntry holdOf enquireHold decoderCall
     sentSize startEncoder serves servesBoth dynamicName staticName chooseName dynamicField staticField choose insertAt insertEntry

@@ -14,3 +14,5 @@ pub mod ExamplesClaim
 pub mod EverClaim
 -- calls whose order counts
 pub mod OrderCountsClaim
+-- the bound on collects is reached
+pub mod LastClaim

@@ -1,4 +1,6 @@
--- Closed lists of calls on a link: Examples is the file to read. Ever has one that the rules refuse, OrderCounts calls whose order counts.
+-- Closed lists of calls: Examples is the file to read. Ever has one that the rules for the link refuse, OrderCounts calls whose order counts, Last one at a decoder that reaches a
+-- bound.
 pub mod Examples
 pub mod Ever
 pub mod OrderCounts
+pub mod Last

@@ -1,1 +1,1 @@
-// No code: two closed lists of calls, with what every call answers and writes.
+// No code: closed lists of calls, with what every call answers and writes.

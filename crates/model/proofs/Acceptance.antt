@@ -1,4 +1,4 @@
--- Document 01's rules as computed facts, its sentence over each. A definition that breaks a rule computes to something else here,
+-- The papers' rules as computed facts, the sentence over each. A definition that breaks a rule computes to something else here,
 -- whatever shape the proofs of the laws have. AcceptanceCalls has the calls, AcceptanceParts the facts on what a part takes and what finishes it.
 -- (The laws are in crate model_laws, above this one: so what such a definition meets first stands here, in seconds. A collect or an enquiry looks at all
 -- 4,096 streams, and each edit of a definition computes these facts again: further facts of this kind are in model_laws.)
@@ -28,11 +28,13 @@ use Rattle.model.proofs.AcceptanceCalls.{
   encoderOutputs,
   heldAfter,
   deletionAfter,
+  deletesAfter,
   slotAfter,
   sumAfter,
   field,
   insert-h9,
   deleteWith,
+  delete-of,
   delete-nontrailer,
   delete-trailer,
   trailer-block,
@@ -93,8 +95,20 @@ pub ready-trailer :
 unfolding freed
 ready-trailer = (refl, refl)
 
--- "A collect call frees the ready entry of lowest index": each time, also where an index is used again. A delete goes with its entry: the next entry
--- at that index is not freed before a delete of its own, which is taken.
+-- "Collect shall now free the ready entry whose delete arrived first": the delete of 63 is read before that of 62
+pub freed-by-arrival : freed 68 (insert-h9 62 ∷ insert-h9 63 ∷ delete-of 63 ∷ delete-of 62 ∷ collect 16 ∷ collect 16 ∷ []) ≡ 63 ∷ 62 ∷ []
+unfolding freed
+freed-by-arrival = refl
+
+-- "a busy low slot can come back again and again and keep a high one waiting": no longer. The second delete of 62 is read behind that of 63.
+pub busy-slot-behind :
+    freed 68 (insert-h9 62 ∷ insert-h9 63 ∷ delete-of 62 ∷ delete-of 63 ∷ collect 16 ∷ insert-h9 62 ∷ delete-of 62 ∷ collect 16 ∷ collect 16 ∷ []) ≡
+    62 ∷ 63 ∷ 62 ∷ []
+unfolding freed
+busy-slot-behind = refl
+
+-- A collect frees each time, also where an index is used again. A delete goes with its entry: the next entry at that index is not freed before a delete of
+-- its own, which is taken.
 pub deleted-anew :
     decoderAnswers 68 (insert-h9 62 ∷ delete-nontrailer 0 ∷ collect 16 ∷ insert-h9 62 ∷ collect 16 ∷ delete-nontrailer 0 ∷ collect 16 ∷ []) ≡
     done 6 0 ∷ done 5 0 ∷ done 1 0 ∷ done 6 0 ∷ done 0 0 ∷ done 5 0 ∷ done 1 0 ∷ []
@@ -216,6 +230,15 @@ pub deletion-by-history :
     (deletionAfter then-freed 62 ≡ none)
 unfolding deletionAfter
 deletion-by-history = (refl, refl, refl)
+
+-- the deletes that were read and whose entries are not freed, in the order in which they were read
+pub arrival-by-history :
+    (deletesAfter (three ++ (delete 63 (emptyList 0) (emptyList 0) ∷ [])) ≡
+    record { index = 62; nontrailer = list-3-4-7; trailer = emptyList 1 } ∷ record { index = 63; nontrailer = emptyList 0; trailer = emptyList 0 } ∷ []) ×
+    (deletesAfter (three ++ (delete 63 (emptyList 0) (emptyList 0) ∷ acknowledge 62 ∷ [])) ≡
+    record { index = 63; nontrailer = emptyList 0; trailer = emptyList 0 } ∷ [])
+unfolding deletesAfter
+arrival-by-history = (refl, refl)
 
 -- "At every moment it equals the sizes of all inserts done less the sizes of all entries freed since the start."
 pub sizes-by-history :

@@ -4,12 +4,13 @@ use Prim.Native.Nat.{ℕ}
 use mathlib.Core.Bool.{Bool, false}
 use mathlib.Core.Option.{Option, none}
 use mathlib.Core.List.{List, [], _∷_, _++_}
+use lib.ListN.{length}
 use Rattle.integers.specs.Answers.{Answer}
 use Rattle.wire.specs.Name.{literal as by-bytes}
 use Rattle.wire.specs.StreamList.{StreamList}
 use Rattle.statics.specs.Ascii.{bytes}
 use Rattle.fields.specs.Form.{Field}
-use Rattle.instructions.specs.Instruction.{Instruction, insert, delete, acknowledge}
+use Rattle.instructions.specs.Instruction.{Instruction, insert, delete, acknowledge, instructionWire}
 use Rattle.blocks.specs.Representation.{Representation, indexed}
 use Rattle.blocks.specs.Meaning.{Slot}
 use Rattle.model.specs.Parts.{Delete, lowestOpen}
@@ -21,7 +22,7 @@ use Rattle.model.specs.DecoderCalls.{DecoderCall, read, block, close, de
 use Rattle.model.specs.Encoder.{Encoder, startEncoder, emptyList}
 use Rattle.model.specs.EncoderCalls.{EncoderCall, encoderCall}
 use Rattle.model.specs.EncoderCalls as at-encoder
-use Rattle.model.specs.Happened.{Happened, doneBy, after, heldBy, deletionBy, Contents, empty, named, entryOf, contentsBy}
+use Rattle.model.specs.Happened.{Happened, doneBy, after, heldBy, deletionBy, deletesBy, Contents, empty, named, entryOf, contentsBy}
 use Rattle.model.specs.Happened.{sizeIn, addedBy, removedBy, sumOf}
 use Rattle.model.proofs.Running.{run}
 
@@ -87,6 +88,10 @@ unfoldable pub deletionAfter : List Instruction → ℕ → Option Delete
 unfolding after deletionBy
 deletionAfter is i = after (deletionBy i) none (happened is)
 
+unfoldable pub deletesAfter : List Instruction → List Delete
+unfolding run after deletesBy
+deletesAfter is = after deletesBy [] (happened is)
+
 unfoldable pub slotAfter : List Instruction → ℕ → Slot
 unfolding run after named entryOf contentsBy
 slotAfter is i = after contentsBy empty (happened is) i
@@ -105,6 +110,10 @@ insert-h9 i = read (insert i (by-bytes (bytes "h")) (bytes "9")) 6
 
 abbrev pub deleteWith : StreamList → StreamList → DecoderCall
 deleteWith first last = read (delete 62 first last) 5
+
+-- with lists that name nothing
+abbrev pub delete-of : ℕ → DecoderCall
+delete-of i = let d = delete i (emptyList 0) (emptyList 0) in read d (length (instructionWire d))
 
 -- with horizon n as first or as second list
 abbrev pub delete-nontrailer : ℕ → DecoderCall

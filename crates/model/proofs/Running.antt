@@ -16,7 +16,7 @@ use Rattle.fields.specs.Form.{textForm, fieldForm, listForm}
 use Rattle.instructions.specs.Instruction.{instructionWire}
 use Rattle.blocks.specs.Representation.{representationWire, blockWire}
 use Rattle.blocks.specs.Meaning.{isStatic, withStatics, fieldMeaning, blockMeaning, blockReferences}
-use Rattle.model.specs.Table.{size, look, put, cut, lowest, vacantFrom, total}
+use Rattle.model.specs.Table.{size, look, put, cut, first, vacantFrom, total}
 use Rattle.model.specs.Parts.{partOf, mark, markBoth, blockMarks, inTurn, namesPart, isOpen, openBelow, isReady}
 use Rattle.model.specs.Decoder.{heldSize, slotIn, lookup, deleteOf, startDecoder, slotName, nameBytes, insertNamed, deleteEntry}
 use Rattle.model.specs.Decoder.{readInstruction, giveFields, decodePart, decodeBlock, closeParts, readyDelete, ready, nextFreed, without}
@@ -30,7 +30,7 @@ use Rattle.model.specs.Events.{LinkCall, Event, saidBy, wroteBy, encoder
 unfoldable pub run : ℕ → ℕ → List LinkCall → List Event
 unfolding same intWire groupWire codes codeOf bitsOf valueOf bytesOf codeBits codesOf codesSize packedSize pack allBytes packs stringWire nameWire names listed listWire deltasWire entries entryAt hasName hasBoth lowest-static lowestName lowestBoth
     textForm fieldForm listForm instructionWire representationWire blockWire isStatic withStatics fieldMeaning blockMeaning blockReferences
-    size look put cut lowest vacantFrom total partOf mark markBoth blockMarks inTurn namesPart isOpen openBelow isReady
+    size look put cut first vacantFrom total partOf mark markBoth blockMarks inTurn namesPart isOpen openBelow isReady
     heldSize slotIn lookup deleteOf startDecoder slotName nameBytes insertNamed deleteEntry readInstruction giveFields decodePart decodeBlock
     closeParts readyDelete ready nextFreed without freeEntry collectEntry
     sentSize startEncoder serves servesBoth dynamicName staticName chooseName dynamicField staticField choose insertAt insertEntry

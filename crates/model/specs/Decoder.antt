@@ -2,7 +2,7 @@
 use Prim.Native.Nat.{ℕ, _+_, _≤_}
 use mathlib.Core.Path.{_≡_}
 use mathlib.Core.Bool.{Bool, true, false, not}
-use mathlib.Core.Option.{Option, none, some}
+use mathlib.Core.Option.{Option, none, some, Option·map}
 use mathlib.Core.List.{List, [], _∷_, _++_}
 use lib.ListN.{length}
 use lib.Dec.{ltb, leb}
@@ -16,7 +16,7 @@ use Rattle.instructions.specs.Instruction.{Instruction, insert, delete, acknowl
 use Rattle.blocks.specs.Representation.{Representation}
 use Rattle.blocks.specs.Meaning.{Slot, vacant as empty, holds, withStatics, BlockMeaning, list, blockMeaning}
 use Rattle.blocks.specs.Meaning as meaning
-use Rattle.model.specs.Table.{size, Account, Ascending, Distinct, look, put, cut, lowest, total}
+use Rattle.model.specs.Table.{size, Account, Ascending, Distinct, look, put, cut, first, total}
 use Rattle.model.specs.Parts.{Part, partOf, Marks, noMarks, blockMarks, Closing, closed, inTurn, Delete, openBelow, lowestOpen, streams, isReady}
 use Rattle.model.specs.Outcome.{nothing, instruction, fields, Outcome, refuse, finish}
 
@@ -128,7 +128,8 @@ decodeBlock D s part rs room = decodePart D s (partOf part) rs room
 unfoldable pub closeParts : Decoder → Closing → ℕ → Outcome Decoder
 closeParts D k s = need (ltb s streams) (refuse D out-of-turn) (finish (withFinished D (closed k s (D .finished))) 0 0 nothing)
 
--- ---- collect: "frees the ready entry of lowest index and writes its Delete-Ack; with none ready it is done, writes 0 bytes and changes nothing"
+-- ---- collect: "Collect shall now free the ready entry whose delete arrived first" (request 14), and it "writes its Delete-Ack; with none ready it is done,
+-- writes 0 bytes and changes nothing"
 unfoldable pub readyDelete : Marks → Option Delete → Bool
 readyDelete marks none = false
 readyDelete marks (some d) = isReady marks d
@@ -136,17 +137,17 @@ readyDelete marks (some d) = isReady marks d
 unfoldable pub ready : Decoder → ℕ → Bool
 ready D i = readyDelete (D .finished) (deleteOf D i)
 
-unfoldable pub nextFreed : Decoder → Option Held
-nextFreed D = lowest heldIndex (λ h. ready D (h .index)) (D .entries)
+unfoldable pub nextFreed : Decoder → Option ℕ
+nextFreed D = Option·map deleteIndex (first deleteIndex (λ d. ready D (d .index)) (D .deletes))
 
 unfoldable pub without : Decoder → ℕ → Decoder
 without D i = withDeletes (withEntries D (cut heldIndex i (D .entries))) (cut deleteIndex i (D .deletes))
 
-unfoldable pub freeEntry : Decoder → ℕ → Option Held → Outcome Decoder
+unfoldable pub freeEntry : Decoder → ℕ → Option ℕ → Outcome Decoder
 freeEntry D room none = finish D 0 0 nothing
-freeEntry D room (some h) =
-    need (leb (length (instructionWire (acknowledge (h .index)))) room) (refuse D no-room)
-    (finish (without D (h .index)) (length (instructionWire (acknowledge (h .index)))) 0 (instruction (acknowledge (h .index))))
+freeEntry D room (some i) =
+    need (leb (length (instructionWire (acknowledge i))) room) (refuse D no-room)
+    (finish (without D i) (length (instructionWire (acknowledge i))) 0 (instruction (acknowledge i)))
 
 unfoldable pub collectEntry : Decoder → ℕ → Outcome Decoder
 collectEntry D room = freeEntry D room (nextFreed D)

@@ -3,15 +3,15 @@
 use Prim.Native.Nat.{ℕ, _+_}
 use mathlib.Core.Bool.{Bool, true, false}
 use mathlib.Core.Option.{Option, none, some}
-use mathlib.Core.List.{List, [], _∷_}
+use mathlib.Core.List.{List, [], _∷_, _++_}
 use lib.Dec.{eqb}
 use Rattle.memory.specs.Choice.{pick}
 use Rattle.wire.specs.Name.{Name}
 use Rattle.instructions.specs.Instruction.{Instruction, insert, delete, acknowledge}
 use Rattle.blocks.specs.Meaning.{Slot, vacant, holds, withStatics}
-use Rattle.model.specs.Table.{size}
+use Rattle.model.specs.Table.{size, cut}
 use Rattle.model.specs.Parts.{Delete}
-use Rattle.model.specs.Decoder.{nameBytes}
+use Rattle.model.specs.Decoder.{deleteIndex, nameBytes}
 
 pub data Happened : Type 0 where
   -- an insert was done at this index, with this name and value
@@ -43,6 +43,12 @@ unfoldable pub deletionBy : ℕ → Option Delete → Happened → Option Delete
 deletionBy i o (inserted j name value) = o
 deletionBy i o (deleted d) = pick (eqb (d .index) i) (some d) o
 deletionBy i o (freed j) = pick (eqb j i) none o
+
+-- ---- the deletes done and not freed, in the order in which they were read
+unfoldable pub deletesBy : List Delete → Happened → List Delete
+deletesBy ds (inserted j name value) = ds
+deletesBy ds (deleted d) = ds ++ (d ∷ [])
+deletesBy ds (freed j) = cut deleteIndex j ds
 
 -- ---- what every index holds
 abbrev pub Contents : Type 0

@@ -45,10 +45,10 @@ module _ {X : Type 0} (index : X → ℕ) where
   cut i [] = []
   cut i (x ∷ l) = pick (eqb (index x) i) l (x ∷ cut i l)
 
-  -- the first entry, so the one of lowest index, that passes a test
-  unfoldable pub lowest : (X → Bool) → List X → Option X
-  lowest test [] = none
-  lowest test (x ∷ l) = pick (test x) (some x) (lowest test l)
+  -- the first entry that passes a test: in a table ascending by index the one of lowest index, among deletes the one that arrived first
+  unfoldable pub first : (X → Bool) → List X → Option X
+  first test [] = none
+  first test (x ∷ l) = pick (test x) (some x) (first test l)
 
   -- "the lowest from 62 that is not held": the lowest index from n on that no entry has
   unfoldable pub vacantFrom : ℕ → List X → ℕ

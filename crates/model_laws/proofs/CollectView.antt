@@ -12,12 +12,13 @@ use borrow.Author.Tests.{ltb-true, lt-ltb, eqb-true, eq-eqb}
 use Rattle.memory.specs.Choice.{pick}
 use Rattle.memory.proofs.Order.{split, either, pick-both, not-both}
 use Rattle.wire.specs.StreamList.{StreamList, listed, names}
+use Rattle.statics.specs.Table.{Entry}
 use Rattle.instructions.specs.Instruction.{FineList}
 use Rattle.model.specs.Table.{size, look, cut}
 use Rattle.model.specs.Parts.{Part, nontrailer, trailer, Marks, Delete, namesPart, streams, isReady}
 use Rattle.model.specs.Decoder.{Held, heldIndex, deleteIndex, Decoder, heldSize, deleteOf, readyDelete, ready, nextFreed, without, FormsDecoder}
 use Rattle.model_laws.proofs.Tables.{nope, total-cut}
-use Rattle.model_laws.proofs.Forms.{freed-held}
+use Rattle.model_laws.proofs.Forms.{freed-ready, freed-held}
 use Rattle.model_laws.proofs.Marks.{OpenPart, ready-marked, ready-or, part-low, and-both}
 use Rattle.model_laws.proofs.Slots.Machine.{StreamPart, DeleteLists, partsBelow, partsAmong, namedParts, allMarked, deletedSlot, sizeOf, freeAt}
 use Rattle.model_laws.proofs.Slots.Machine.{withSlots, setSlot}
@@ -125,27 +126,29 @@ module _ (marks : Marks) where
       (ready-or marks d)
 
 -- ---- a collect
-pub record Freed (D : Decoder) (h : Held) : Type 0 where
+pub record Freed (D : Decoder) (i : ℕ) : Type 0 where
+  pub entry : Entry
   pub lists : DeleteLists
-  pub was : tablesOf D .slots (h .index) ≡ deletedSlot (h .entry) lists
+  pub was : tablesOf D .slots i ≡ deletedSlot entry lists
   pub all : allMarked (tablesOf D .finished) (namedParts lists) ≡ true
-  pub fits : size (h .entry) ≤ tablesOf D .filled
-  pub view : tablesOf (without D (h .index)) ≡ freeAt (tablesOf D) (h .index)
+  pub fits : size entry ≤ tablesOf D .filled
+  pub view : tablesOf (without D i) ≡ freeAt (tablesOf D) i
 
-module _ (D : Decoder) (F : FormsDecoder D) (h : Held) (there : look heldIndex (h .index) (D .entries) ≡ some h) where
-  freed : (d : Option Delete) → look deleteIndex (h .index) (D .deletes) ≡ d → readyDelete (D .finished) d ≡ true → Freed D h
+module _ (D : Decoder) (F : FormsDecoder D) (i : ℕ) (h : Held) (there : look heldIndex i (D .entries) ≡ some h) where
+  freed : (d : Option Delete) → look deleteIndex i (D .deletes) ≡ d → readyDelete (D .finished) d ≡ true → Freed D i
   unfolding tablesOf slotsOf freeAt setSlot without heldSize readyDelete
   freed none e r = nope (cc)
   freed (some d) e r =
-      let fine = F .deletes (h .index) d e in
-      let sum = total-cut heldIndex (λ x. size (x .entry)) (h .index) (D .entries) h there in
-      let slot : slotAt (look heldIndex (h .index) (D .entries)) (look deleteIndex (h .index) (D .deletes)) ≡ deletedSlot (h .entry) (listsOf d) =
+      let fine = F .deletes i d e in
+      let sum = total-cut heldIndex (λ x. size (x .entry)) i (D .entries) h there in
+      let slot : slotAt (look heldIndex i (D .entries)) (look deleteIndex i (D .deletes)) ≡ deletedSlot (h .entry) (listsOf d) =
       rw (there, e) in
-      let t = slots-cut D F (h .index) in
+      let t = slots-cut D F i in
       let weight = ap sizeOf slot in
-      let w : heldSize (cut heldIndex (h .index) (D .entries))
-      ≡ heldSize (D .entries) - sizeOf (slotAt (look heldIndex (h .index) (D .entries)) (look deleteIndex (h .index) (D .deletes))) = omega arith in
+      let w : heldSize (cut heldIndex i (D .entries))
+      ≡ heldSize (D .entries) - sizeOf (slotAt (look heldIndex i (D .entries)) (look deleteIndex i (D .deletes))) = omega arith in
       record {
+        entry = h .entry;
         lists = listsOf d;
         was = slot;
         all = ready-parts (D .finished) d (fine .nontrailer) (fine .trailer) r;
@@ -153,7 +156,7 @@ module _ (D : Decoder) (F : FormsDecoder D) (h : Held) (there : look heldIndex (
         view = λ k. withSlots (tablesOf D) (t k) (w k);
       }
 
-pub collect-view : (D : Decoder) → FormsDecoder D → (h : Held) → nextFreed D ≡ some h → Freed D h
+pub collect-view : (D : Decoder) → FormsDecoder D → (i : ℕ) → nextFreed D ≡ some i → Freed D i
 unfolding ready deleteOf
-collect-view D F h e =
-    let found = freed-held D F h e in freed D F h (found .0) (look deleteIndex (h .index) (D .deletes)) refl (found .1)
+collect-view D F i e =
+    let h = freed-held D F i e in freed D F i (h .0) (h .1) (look deleteIndex i (D .deletes)) refl (freed-ready D F i e)

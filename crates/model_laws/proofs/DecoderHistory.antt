@@ -16,7 +16,7 @@ use Rattle.blocks.specs.Meaning.{Slot, vacant, holds}
 use Rattle.model.specs.Table.{size, look, put}
 use Rattle.model.specs.Parts.{Delete}
 use Rattle.model.specs.Outcome.{Output, nothing, instruction, block, fields, Outcome}
-use Rattle.model.specs.Decoder.{Decoder, Held, heldIndex, deleteIndex, heldSize, slotIn, lookup, deleteOf, withEntries, nameBytes, without, nextFreed, ready, FormsDecoder}
+use Rattle.model.specs.Decoder.{Decoder, Held, heldIndex, deleteIndex, heldSize, slotIn, lookup, deleteOf, withEntries, nameBytes, without, FormsDecoder}
 use Rattle.model.specs.DecoderCalls.{DecoderCall, decoderCall, afterDecoder}
 use Rattle.model.specs.DecoderCalls as at-decoder
 use Rattle.model_laws.specs.Ready.{FineCalls}
@@ -26,6 +26,7 @@ use Rattle.model.specs.Happened.{
   after,
   heldBy,
   deletionBy,
+  deletesBy,
   Contents,
   isHeld,
   named,
@@ -37,10 +38,10 @@ use Rattle.model.specs.Happened.{
   sumOf,
 }
 use Rattle.model_laws.proofs.HappenedLists.{after-append, sum-append}
-use Rattle.model_laws.proofs.Tables.{pick-eq, pick-yes, pick-no, look-put, look-cut, total-put, total-cut, lowest-sound}
+use Rattle.model_laws.proofs.Tables.{pick-eq, pick-yes, pick-no, look-put, look-cut, total-put, total-cut}
 use Rattle.model_laws.proofs.Deletes.{look-append, look-append-some, look-cut-distinct}
 use Rattle.model_laws.proofs.DecoderWays as ways
-use Rattle.model_laws.proofs.Forms.{forms-call}
+use Rattle.model_laws.proofs.Forms.{freed-held, forms-call}
 
 -- ---- what a call did
 unfoldable pub wroteThat : Output → List Happened
@@ -70,6 +71,7 @@ pub record Told (D : Decoder) (xs : List Happened) (E : Decoder) : Type 0 where
   pub entries : after contentsBy (contentsOf D) xs ≡ contentsOf E
   pub held : (i : ℕ) → after (heldBy i) (isHeld (contentsOf D i)) xs ≡ isHeld (contentsOf E i)
   pub deletion : (i : ℕ) → after (deletionBy i) (deleteOf D i) xs ≡ deleteOf E i
+  pub arrived : after deletesBy (D .deletes) xs ≡ E .deletes
   pub sizes : heldSize (E .entries) + sumOf removedBy (contentsOf D) xs ≡ heldSize (D .entries) + sumOf addedBy (contentsOf D) xs
 
 -- nothing happened, and entries and deletes are the same
@@ -79,6 +81,7 @@ still D E e d = record {
   entries = ap {B = Contents} (λ (l : List Held) (i : ℕ). slotIn (look heldIndex i l)) e;
   held = λ i. ap (λ (l : List Held). isHeld (slotIn (look heldIndex i l))) e;
   deletion = λ i. ap (look deleteIndex i) d;
+  arrived = d;
   sizes = ap (λ (l : List Held). heldSize l + 0) (sym e);
 }
 
@@ -109,7 +112,7 @@ heldWeight h = size (h .entry)
 module _ (D : Decoder) (F : FormsDecoder D) where
   inserted : (i : ℕ) (name : Name) (xs value : List ℕ) → nameBytes (lookup D) name ≡ some xs → look heldIndex i (D .entries) ≡ none
       → Told D (doneBy (insert i name value)) (withEntries D (put heldIndex (ways.newHeld i xs value) (D .entries)))
-  unfolding after contentsBy heldBy deletionBy entryOf named lookup deleteOf sumOf addedBy removedBy sizeIn heldSize
+  unfolding after contentsBy heldBy deletionBy deletesBy entryOf named lookup deleteOf sumOf addedBy removedBy sizeIn heldSize
   inserted i name xs value e n =
       let h : Held = ways.newHeld i xs value in
       let entry : entryOf (contentsOf D) name value ≡ holds (h .entry) = ap (λ (o : Option (List ℕ)). named o value) e in
@@ -120,11 +123,12 @@ module _ (D : Decoder) (F : FormsDecoder D) where
         held = λ k. sym (ap (λ (o : Option Held). isHeld (slotIn o)) (look-put heldIndex k h (D .entries) n)
             ∙ held-pick (eqb i k) h (look heldIndex k (D .entries)));
         deletion = λ k. refl;
+        arrived = refl;
         sizes = let s = ap sizeIn entry in let t = total-put heldIndex heldWeight h (D .entries) in omega (arith, s, t);
       }
 
   deleted : (d : Delete) → deleteOf D (d .index) ≡ none → Told D (doneBy (delete (d .index) (d .nontrailer) (d .trailer))) (ways.withDelete D d)
-  unfolding after contentsBy heldBy deletionBy deleteOf sumOf addedBy removedBy look
+  unfolding after contentsBy heldBy deletionBy deletesBy deleteOf sumOf addedBy removedBy look
   deleted d n = record {
     entries = refl;
     held = λ k. refl;
@@ -132,6 +136,7 @@ module _ (D : Decoder) (F : FormsDecoder D) where
         (λ e. sym (subst (λ (j : ℕ). look deleteIndex j (D .deletes ++ (d ∷ [])) ≡ some d) e
         (look-append deleteIndex (d .index) (D .deletes) (d ∷ []) n ∙ pick-yes (d .index) (d .index) (some d) none refl)))
         (λ e. other k e (look deleteIndex k (D .deletes)) refl);
+    arrived = refl;
     sizes = refl;
   }
     where
@@ -139,22 +144,19 @@ module _ (D : Decoder) (F : FormsDecoder D) where
       other k e none f = sym (look-append deleteIndex k (D .deletes) (d ∷ []) f ∙ pick-no (d .index) k (some d) none e)
       other k e (some x) f = sym (look-append-some deleteIndex k (D .deletes) (d ∷ []) x f)
 
-  freed : (h : Held) → look heldIndex (h .index) (D .entries) ≡ some h → Told D (doneBy (acknowledge (h .index))) (without D (h .index))
-  unfolding after contentsBy heldBy deletionBy deleteOf sumOf addedBy removedBy without sizeIn slotIn heldSize
-  freed h there = record {
-    entries = fun-ext (λ k. sym (ap slotIn (look-cut heldIndex (h .index) k 62 (D .entries) (F .order)) ∙ none-pick (eqb (h .index) k) (look heldIndex k (D .entries))));
-    held = λ k. sym (ap (λ (o : Option Held). isHeld (slotIn o)) (look-cut heldIndex (h .index) k 62 (D .entries) (F .order))
-        ∙ gone-pick (eqb (h .index) k) (look heldIndex k (D .entries)));
-    deletion = λ k. sym (look-cut-distinct deleteIndex (h .index) k (D .deletes) (F .once));
+  freed : (i : ℕ) (h : Held) → look heldIndex i (D .entries) ≡ some h → Told D (doneBy (acknowledge i)) (without D i)
+  unfolding after contentsBy heldBy deletionBy deletesBy deleteOf sumOf addedBy removedBy without sizeIn slotIn heldSize
+  freed i h there = record {
+    entries = fun-ext (λ k. sym (ap slotIn (look-cut heldIndex i k 62 (D .entries) (F .order)) ∙ none-pick (eqb i k) (look heldIndex k (D .entries))));
+    held = λ k. sym (ap (λ (o : Option Held). isHeld (slotIn o)) (look-cut heldIndex i k 62 (D .entries) (F .order))
+        ∙ gone-pick (eqb i k) (look heldIndex k (D .entries)));
+    deletion = λ k. sym (look-cut-distinct deleteIndex i k (D .deletes) (F .once));
+    arrived = refl;
     sizes =
         let s = ap (λ (o : Option Held). sizeIn (slotIn o)) there in
-        let t = total-cut heldIndex heldWeight (h .index) (D .entries) h there in
+        let t = total-cut heldIndex heldWeight i (D .entries) h there in
         omega (arith, s, t);
   }
-
-found : (D : Decoder) → FormsDecoder D → (h : Held) → nextFreed D ≡ some h → look heldIndex (h .index) (D .entries) ≡ some h
-unfolding nextFreed
-found D F h e = lowest-sound heldIndex (λ h. ready D (h .index)) 62 (D .entries) h (F .order) e .0
 
 -- ---- a call
 abbrev ToldBy : Decoder → DecoderCall → Outcome Decoder → Type 0
@@ -181,7 +183,7 @@ told-call D F (at-decoder.close k s) =
     ways.close-ways (ToldBy D (at-decoder.close k s)) D (λ a z. still D D refl refl) k s (λ low. still D _ refl refl)
 told-call D F (at-decoder.collect room) =
     ways.collect-ways (ToldBy D (at-decoder.collect room)) D (λ a z. still D D refl refl) room (λ e. still D D refl refl)
-    (λ h e fits. freed D F h (found D F h e))
+    (λ i e fits. let h = freed-held D F i e in freed D F i (h .0) (h .1))
 told-call D F (at-decoder.hold i) = ways.hold-ways (ToldBy D (at-decoder.hold i)) D (λ a z. still D D refl refl) i (λ d e. still D D refl refl)
 told-call D F (at-decoder.unread number) = still D D refl refl
 
@@ -191,6 +193,7 @@ told-more D C E xs ys a b = record {
   entries = after-append contentsBy (contentsOf D) xs ys ∙ ap (λ (t : Contents). after contentsBy t ys) (a .entries) ∙ b .entries;
   held = λ i. after-append (heldBy i) (isHeld (contentsOf D i)) xs ys ∙ ap (λ (h : Bool). after (heldBy i) h ys) (a .held i) ∙ b .held i;
   deletion = λ i. after-append (deletionBy i) (deleteOf D i) xs ys ∙ ap (λ (o : Option Delete). after (deletionBy i) o ys) (a .deletion i) ∙ b .deletion i;
+  arrived = after-append deletesBy (D .deletes) xs ys ∙ ap (λ (ds : List Delete). after deletesBy ds ys) (a .arrived) ∙ b .arrived;
   sizes =
       let r = sum-append removedBy (contentsOf D) xs ys in
       let s = ap (λ (t : Contents). sumOf removedBy t ys) (a .entries) in

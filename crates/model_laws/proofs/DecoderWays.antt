@@ -101,17 +101,17 @@ module _ {κ} (R : Outcome Decoder → Type κ) (D : Decoder)
 
   pub collect-ways : (room : ℕ)
       → (nextFreed D ≡ none → R (finish D 0 0 nothing))
-      → ((h : Held) → nextFreed D ≡ some h → length (instructionWire (acknowledge (h .index))) ≤ room
-      → R (finish (without D (h .index)) (length (instructionWire (acknowledge (h .index)))) 0 (instruction (acknowledge (h .index)))))
+      → ((i : ℕ) → nextFreed D ≡ some i → length (instructionWire (acknowledge i)) ≤ room
+      → R (finish (without D i) (length (instructionWire (acknowledge i))) 0 (instruction (acknowledge i))))
       → R (collectEntry D room)
   unfolding collectEntry freeEntry
   collect-ways room idle freed = go (nextFreed D) refl
     where
-      go : (o : Option Held) → nextFreed D ≡ o → R (freeEntry D room o)
+      go : (o : Option ℕ) → nextFreed D ≡ o → R (freeEntry D room o)
       go none e = idle e
-      go (some h) e =
-          need-both R (leb (length (instructionWire (acknowledge (h .index)))) room) _ _ (λ f. refused (refusal no-room) refl)
-          (λ f. freed h e (leb-true _ _ f))
+      go (some i) e =
+          need-both R (leb (length (instructionWire (acknowledge i))) room) _ _ (λ f. refused (refusal no-room) refl)
+          (λ f. freed i e (leb-true _ _ f))
 
   pub hold-ways : (i : ℕ)
       → ((d : Delete) → deleteOf D i ≡ some d

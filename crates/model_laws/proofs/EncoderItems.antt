@@ -22,9 +22,9 @@ use Rattle.fields.specs.Form.{Field, AllFine}
 use Rattle.blocks.specs.Representation.{Representation, indexed, literal}
 use Rattle.blocks.specs.Meaning.{isStatic}
 use Rattle.blocks.proofs.MeaningHeld.{static-within, static-above}
-use Rattle.model.specs.Table.{Ascending, look, lowest}
+use Rattle.model.specs.Table.{Ascending, look, first}
 use Rattle.model.specs.Encoder.{Sent, sentIndex, serves, servesBoth, dynamicName, staticName, chooseName, dynamicField, staticField, choose}
-use Rattle.model_laws.proofs.Tables.{nope, look-below, lowest-sound}
+use Rattle.model_laws.proofs.Tables.{nope, look-below, first-sound}
 use Rattle.model_laws.proofs.Slots.Machine.{Item, given, byIndex, byName, entryField, fieldNamed}
 use Rattle.model_laws.proofs.Slots.Invariant.{MeantItem, meantGiven, meantIndex, meantName, asItems, fieldsOf, EachReference}
 use Rattle.model_laws.proofs.View.{slotItem, slotItems}
@@ -107,16 +107,16 @@ module _ (l : List Sent) (a : Ascending sentIndex 62 l) where
   unfolding chooseName staticName dynamicName
   name-chosen name = go (findName name) refl
     where
-      dynamic : (o : Option Sent) → lowest sentIndex (serves name) l ≡ o → Chosen name (dynamicName name o)
+      dynamic : (o : Option Sent) → first sentIndex (serves name) l ≡ o → Chosen name (dynamicName name o)
       dynamic none h = by-string refl
       dynamic (some e) h =
-          let s = lowest-sound sentIndex (serves name) 62 l e a h in
+          let s = first-sound sentIndex (serves name) 62 l e a h in
           let r = serves-is name e (s .1) in
           by-entry e (s .0) (r .0) (r .1) refl
 
       go : (o : StaticFound) → findName name ≡ o → Chosen name (staticName l name o)
       go (At j) h = let w = name-found name 61 1 j h in by-static (j .value) (static-within (j .value) (w .low) (omega (arith, w .high))) (w .holds) refl
-      go Nothing h = dynamic (lowest sentIndex (serves name) l) refl
+      go Nothing h = dynamic (first sentIndex (serves name) l) refl
 
   -- what a representation is worth: it means the field, and an entry that it names is held and not under deletion
   abbrev Sound : Field → MeantItem → Type 0
@@ -153,12 +153,12 @@ module _ (l : List Sent) (a : Ascending sentIndex 62 l) where
               (record { sent = e; found = found; holds = refl; lives = lives }, tt),
             ))
 
-    both-dynamic : (f .flag < 2 → 0 ≡ f .flag) → (o : Option Sent) → lowest sentIndex (servesBoth (f .name) (f .value)) l ≡ o
+    both-dynamic : (f .flag < 2 → 0 ≡ f .flag) → (o : Option Sent) → first sentIndex (servesBoth (f .name) (f .value)) l ≡ o
         → Sound f (meant l (dynamicField l f o))
     unfolding dynamicField fieldsOf
     both-dynamic n none h = name-sound 0 n
     both-dynamic n (some e) h =
-        let s = lowest-sound sentIndex (servesBoth (f .name) (f .value)) 62 l e a h in
+        let s = first-sound sentIndex (servesBoth (f .name) (f .value)) 62 l e a h in
         let r = both-is (f .name) (f .value) e (s .1) in
         subst (Sound f) (sym (index-meant e (s .0)))
         ((λ w k. record { flag = n w k; name = r .0 k; value = r .1 k } ∷ []), (record { sent = e; found = s .0; holds = refl; lives = r .2 }, tt))
@@ -175,7 +175,7 @@ module _ (l : List Sent) (a : Ascending sentIndex 62 l) where
             let same′ : entryAt (j .value) .value ≡ f .value = w .holds .1 in
             subst (Sound f) (sym (pick-true (isStatic (j .value)) _ _ static))
             ((λ t k. record { flag = n t k; name = same k; value = same′ k } ∷ []), tt)
-        go Nothing h = both-dynamic n (lowest sentIndex (servesBoth (f .name) (f .value)) l) refl
+        go Nothing h = both-dynamic n (first sentIndex (servesBoth (f .name) (f .value)) l) refl
 
     choose-sound : Sound f (meant l (choose l f))
     unfolding choose

@@ -1,27 +1,28 @@
 -- A decoder's state stays well formed: from the start, through every call that the reading can give, and so after every list of them.
 -- A refusal keeps the state; what is done is one of the table's changes.
-use mathlib.Core.Path.{_≡_, refl, ap, subst}
+use mathlib.Core.Path.{_≡_, refl, sym, ap, subst, _∙_}
 use Prim.Native.Nat.{ℕ, _≤_}
 use native.Mathlib.Omega.{arith}
-use mathlib.Core.Bool.{true}
-use mathlib.Core.Option.{Option, none, some}
+use mathlib.Core.Bool.{Bool, true, false}
+use mathlib.Core.Option.{Option, none, some, Option·map}
 use mathlib.Core.List.{List, [], _∷_}
 use lib.ListN.{length}
-use Rattle.memory.proofs.Order.{pick-both}
+use Rattle.memory.proofs.Order.{pick-both, not-both}
 use Rattle.wire.specs.Name.{Name, indexed, literal, FineName}
 use Rattle.statics.specs.Table.{entryAt}
 use Rattle.statics.proofs.Places.{name-most}
 use Rattle.instructions.specs.Instruction.{Instruction, insert, delete, acknowledge, FineInstruction}
 use Rattle.blocks.specs.Meaning.{Slot, holds, isStatic, withStatics}
-use Rattle.model.specs.Table.{look, total}
-use Rattle.model.specs.Parts.{blockMarks, closed}
+use Rattle.model.specs.Table.{look, first, total}
+use Rattle.model.specs.Parts.{blockMarks, closed, Delete}
 use Rattle.model.specs.Outcome.{Outcome}
-use Rattle.model.specs.Decoder.{Held, heldIndex, Decoder, heldSize, slotIn, lookup, deleteOf, startDecoder, slotName, nameBytes, isSome}
-use Rattle.model.specs.Decoder.{readInstruction, ready, nextFreed, FineHeld, FormsDecoder}
+use Rattle.model.specs.Decoder.{Held, heldIndex, deleteIndex, Decoder, heldSize, slotIn, lookup, deleteOf, startDecoder, slotName, nameBytes, isSome}
+use Rattle.model.specs.Decoder.{readInstruction, readyDelete, ready, nextFreed, FineHeld, FormsDecoder}
 use Rattle.model.specs.DecoderCalls.{DecoderCall, read, block, close, collect, hold, unread, decoderCall, afterDecoder}
 use Rattle.model_laws.specs.Ready.{FineCall, FineCalls}
-use Rattle.model_laws.proofs.Tables.{nope, lowest-sound}
-use Rattle.model_laws.proofs.DecoderWays.{newHeld, insert-ways, delete-ways, acknowledge-ways, block-ways, close-ways, collect-ways, hold-ways}
+use Rattle.model_laws.proofs.Tables.{nope, look-index}
+use Rattle.model_laws.proofs.Deletes.{first-of}
+use Rattle.model_laws.proofs.DecoderWays.{some-found, newHeld, insert-ways, delete-ways, acknowledge-ways, block-ways, close-ways, collect-ways, hold-ways}
 use Rattle.model_laws.proofs.TableChanges.{forms-finished, forms-put, forms-delete, forms-free}
 
 pub forms-start : (limit : ℕ) → limit ≤ 4096 → FormsDecoder (startDecoder limit)
@@ -53,10 +54,36 @@ module _ (D : Decoder) (F : FormsDecoder D) where
   name-fits (indexed i) f name e = index-name i name e
   name-fits (literal xs) f name e = let same : xs ≡ name = cc in subst (λ (l : List ℕ). length l ≤ 255) same f
 
-  -- the entry that a collect frees is held
-  pub freed-held : (h : Held) → nextFreed D ≡ some h → (look heldIndex (h .index) (D .entries) ≡ some h) × (ready D (h .index) ≡ true)
+  -- the entry under deletion is held
+  pub delete-held : (i : ℕ) (d : Delete) → deleteOf D i ≡ some d → (h : Held) × (look heldIndex i (D .entries) ≡ some h)
+  unfolding deleteOf
+  delete-held i d e =
+      let at : d .index ≡ i = look-index deleteIndex i (D .deletes) d e in
+      some-found (look heldIndex i (D .entries)) (ap (λ (k : ℕ). isSome (look heldIndex k (D .entries))) (sym at) ∙ F .deletes i d e .held)
+
+  -- what is ready is under deletion
+  pub ready-delete : (i : ℕ) → ready D i ≡ true → (d : Delete) × (deleteOf D i ≡ some d)
+  unfolding ready readyDelete
+  ready-delete i r = go (deleteOf D i) refl r
+    where
+      go : (o : Option Delete) → deleteOf D i ≡ o → readyDelete (D .finished) o ≡ true → (d : Delete) × (deleteOf D i ≡ some d)
+      go none e h = not-both false h refl
+      go (some d) e h = (d, e)
+
+  -- the entry that a collect frees is ready, so held
+  pub freed-ready : (i : ℕ) → nextFreed D ≡ some i → ready D i ≡ true
   unfolding nextFreed
-  freed-held h e = lowest-sound heldIndex (λ x. ready D (x .index)) 62 (D .entries) h (F .order) e
+  freed-ready i e = go (first deleteIndex test (D .deletes)) refl e
+    where
+      test : Delete → Bool
+      test d = ready D (d .index)
+
+      go : (o : Option Delete) → first deleteIndex test (D .deletes) ≡ o → Option·map deleteIndex o ≡ some i → ready D i ≡ true
+      go none q h = nope (cc)
+      go (some d) q h = let same : d .index ≡ i = cc in rw same at (first-of deleteIndex test (D .deletes) d q .passes)
+
+  pub freed-held : (i : ℕ) → nextFreed D ≡ some i → (h : Held) × (look heldIndex i (D .entries) ≡ some h)
+  freed-held i e = let d = ready-delete i (freed-ready i e) in delete-held i (d .0) (d .1)
 
 abbrev Keeps : Outcome Decoder → Type 0
 Keeps o = FormsDecoder (o .state)
@@ -80,7 +107,7 @@ forms-call D (read i taken) F f = forms-read D i taken F (f .1)
 forms-call D (block s part rs room) F f =
     block-ways Keeps D (λ a z. F) s part rs room (λ p fs e below turn m fits. forms-finished D F (blockMarks p s (D .finished)))
 forms-call D (close k s) F f = close-ways Keeps D (λ a z. F) k s (λ below. forms-finished D F (closed k s (D .finished)))
-forms-call D (collect room) F f = collect-ways Keeps D (λ a z. F) room (λ e. F) (λ h e fits. forms-free D F h (freed-held D F h e .0))
+forms-call D (collect room) F f = collect-ways Keeps D (λ a z. F) room (λ e. F) (λ i e fits. let h = freed-held D F i e in forms-free D F i (h .0) (h .1))
 forms-call D (hold i) F f = hold-ways Keeps D (λ a z. F) i (λ d e. F)
 forms-call D (unread number) F f = F
 

@@ -1,23 +1,22 @@
 -- Further facts of `model`'s Acceptance, computed here once: a collect or an enquiry looks at all 4,096 streams.
 use mathlib.Core.Path.{_≡_, refl}
 use mathlib.Core.List.{List, [], _∷_}
-use Rattle.integers.specs.Answers.{done}
-use Rattle.instructions.specs.Instruction.{delete}
-use Rattle.model.specs.DecoderCalls.{read, collect, hold}
-use Rattle.model.specs.Encoder.{emptyList}
-use Rattle.model.proofs.AcceptanceCalls.{decoderAnswers, freed, insert-h9, delete-nontrailer, over, refers-62}
+use Rattle.integers.specs.Answers.{done, refusal}
+use Rattle.model.specs.DecoderCalls.{collect, hold}
+use Rattle.model.proofs.AcceptanceCalls.{decoderAnswers, freed, insert-h9, delete-of, delete-nontrailer, over, refers-62}
 
--- "A collect call frees the ready entry of lowest index and writes its Delete-Ack": each time, also where an index is used again.
+-- a collect "frees the ready entry .. and writes its Delete-Ack": each time, also where an index is used again
 pub freed-again :
     freed 68 (insert-h9 62 ∷ delete-nontrailer 0 ∷ collect 16 ∷ insert-h9 62 ∷ delete-nontrailer 0 ∷ collect 16 ∷ []) ≡ 62 ∷ 62 ∷ []
 unfolding freed
 freed-again = refl
 
-pub freed-lowest :
-    freed 68 (insert-h9 62 ∷ insert-h9 63 ∷ read (delete 63 (emptyList 0) (emptyList 0)) 6 ∷ delete-nontrailer 0 ∷ collect 16 ∷ collect 16 ∷ []) ≡
-    62 ∷ 63 ∷ []
-unfolding freed
-freed-lowest = refl
+-- the first that arrived is freed or none: with too little room for its acknowledgement, two bytes for 63, the answer is 12, though 62's would fit
+pub room-for-the-first :
+    decoderAnswers 68 (insert-h9 62 ∷ insert-h9 63 ∷ delete-of 63 ∷ delete-of 62 ∷ collect 1 ∷ collect 2 ∷ collect 1 ∷ []) ≡
+    done 6 0 ∷ done 6 0 ∷ done 6 0 ∷ done 5 0 ∷ refusal 12 ∷ done 2 0 ∷ done 1 0 ∷ []
+unfolding decoderAnswers
+room-for-the-first = refl
 
 -- "with none ready it is done, writes 0 bytes and changes nothing": no entry under deletion, one that is not ready, and it still serves
 pub none-freed :

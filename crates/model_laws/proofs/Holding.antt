@@ -19,7 +19,8 @@ use Rattle.model_laws.specs.Promises.{HoldTells}
 use Rattle.model_laws.proofs.Tables.{nope}
 use Rattle.model_laws.proofs.DecoderWays.{hold-ways}
 use Rattle.model_laws.proofs.Marks.{closed-marked, open-both}
-use Rattle.model_laws.proofs.Collecting.{delete-held, held-index}
+use Rattle.model_laws.proofs.Forms.{delete-held}
+use Rattle.model_laws.proofs.Collecting.{held-index}
 
 neither : (a b : Bool) → (a || b) ≡ false → (a ≡ false) × (b ≡ false)
 neither true b h = not-both true refl h

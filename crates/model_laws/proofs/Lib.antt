@@ -21,6 +21,8 @@ pub mod CouldStill
 pub mod Collecting
 pub mod Ready
 pub mod ReadyClaim
+-- request 14: what is ready is acknowledged soon
+pub mod Collects
 -- the link as slots: each index for itself, and the invariant
 pub mod Slots
 -- the tables seen as slots

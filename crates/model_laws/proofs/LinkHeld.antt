@@ -121,7 +121,7 @@ call-holds D n (at-decoder.close k s) i a =
     (λ b e. told-keeps (holds i D) k s b i) k s (λ e. told-keeps (holds i D) k s _ i)
 call-holds D n (at-decoder.collect room) i a =
     ways.collect-ways (λ o. heldFrom (holds i D) (freedBy (o .output) ∷ []) i ≡ holds i (o .state)) D
-    (λ b e. refl) room (λ e. refl) (λ h e f. cut-holds i (h .index) (D .entries) a)
+    (λ b e. refl) room (λ e. refl) (λ j e f. cut-holds i j (D .entries) a)
 call-holds D n (at-decoder.hold j) i a = ways.hold-ways (λ o. holds i D ≡ holds i (o .state)) D (λ b e. refl) j (λ d e. refl)
 call-holds D n (at-decoder.unread number) i a = refl
 

@@ -9,7 +9,7 @@ use mathlib.Core.List.{List, [], _∷_, _++_, append-nil}
 use Rattle.memory.specs.Choice.{pick}
 use Rattle.instructions.specs.Instruction.{Instruction, Manages}
 use Rattle.model.specs.Parts.{Marks, Closing, closed}
-use Rattle.model.specs.Decoder.{Decoder, Held, readInstruction, closeParts, withFinished, nextFreed, without, collectEntry, FormsDecoder}
+use Rattle.model.specs.Decoder.{Decoder, readInstruction, closeParts, withFinished, nextFreed, without, collectEntry, FormsDecoder}
 use Rattle.model.specs.Encoder.{Encoder}
 use Rattle.model.specs.Events.{at, Event, heard, freed, told, quiet, freedBy, toldBy}
 use Rattle.model_laws.specs.Link.{saidIn, heardIn, freedIn, acknowledgedIn, writtenFrom, writtenIn}
@@ -78,36 +78,36 @@ module _ (xs : List Event) (E : Encoder) (D : Decoder) (F : FormsDecoder D) (T :
       (marks-invariant (now xs E D T) (closed k s (D .finished)) (λ q h. closed-keeps k s (D .finished) (q .stream) (q .part) h) (T .invariant)))
 
   -- ---- a collect: an entry was freed, or nothing happened
-  free-tied : (h : Held) → nextFreed D ≡ some h → Tied (xs ++ (freed (h .index) ∷ [])) E (without D (h .index))
+  free-tied : (i : ℕ) → nextFreed D ≡ some i → Tied (xs ++ (freed i ∷ [])) E (without D i)
   unfolding saidIn heardIn freedIn acknowledgedIn writtenFrom linkOf afterCollect without
-  free-tied h q =
-      let C = collect-view D F h q in
-      let e : Event = freed (h .index) in
+  free-tied i q =
+      let C = collect-view D F i q in
+      let e : Event = freed i in
       let es : List Event = xs ++ (e ∷ []) in
       let a : saidIn es ≡ saidIn xs = said-append xs (e ∷ []) ∙ append-nil (saidIn xs) in
       let b : heardIn es ≡ heardIn xs = heard-append xs (e ∷ []) ∙ omega arith in
-      let c : freedIn es ≡ freedIn xs ++ (h .index ∷ []) = freed-append xs (e ∷ []) in
+      let c : freedIn es ≡ freedIn xs ++ (i ∷ []) = freed-append xs (e ∷ []) in
       let d : acknowledgedIn es ≡ acknowledgedIn xs = acknowledged-append xs (e ∷ []) ∙ omega arith in
       let u : writtenIn es ≡ writtenIn xs = written-append xs (e ∷ []) ∙ append-nil (writtenIn xs) in
       record {
         history = quiet-history xs e (D .finished) (E .written) tt (T .history);
         unread = T .unread;
-        unreadAcks = T .unreadAcks ++ (record { slot = h .index; entry = h .entry } ∷ []);
+        unreadAcks = T .unreadAcks ++ (record { slot = i; entry = C .entry } ∷ []);
         blocks = T .blocks;
         management = rw (a, b) (T .management);
         acknowledgements =
             rw (c, d)
-            (acknowledgements-freed (freedIn xs) (acknowledgedIn xs) (T .unreadAcks) (record { slot = h .index; entry = h .entry }) (T .acknowledgements));
+            (acknowledgements-freed (freedIn xs) (acknowledgedIn xs) (T .unreadAcks) (record { slot = i; entry = C .entry }) (T .acknowledgements));
         meant = rw u (T .meant);
         invariant =
             rw a
             (subst
-            (λ (k : DecoderTables). Invariant (withAcks (withDecoder (now xs E D T) k) (T .unreadAcks ++ (record { slot = h .index; entry = h .entry } ∷ []))))
-            (sym (C .view)) (collect-invariant (now xs E D T) (h .index) (h .entry) (C .lists) (C .was) (C .all) (C .fits) (T .invariant)));
+            (λ (k : DecoderTables). Invariant (withAcks (withDecoder (now xs E D T) k) (T .unreadAcks ++ (record { slot = i; entry = C .entry } ∷ []))))
+            (sym (C .view)) (collect-invariant (now xs E D T) i (C .entry) (C .lists) (C .was) (C .all) (C .fits) (T .invariant)));
       }
 
   pub collect-tied : (room : ℕ) → Tied (xs ++ (freedBy (collectEntry D room .output) ∷ [])) E (collectEntry D room .state)
   unfolding freedBy
   collect-tied room =
       decoder.collect-ways (λ o. Tied (xs ++ (freedBy (o .output) ∷ [])) E (o .state)) D (λ a e. quiet-tied xs E D T quiet tt tt) room
-      (λ e. quiet-tied xs E D T quiet tt tt) (λ h e f. free-tied h e)
+      (λ e. quiet-tied xs E D T quiet tt tt) (λ i e f. free-tied i e)

@@ -166,6 +166,15 @@ module _ (marks : Marks) (d : Delete) where
   unfolding isReady
   ready-or = ⊎-elim (λ h. inl (eq-eqb (openBelow marks d streams) 0 h)) inr (open-or streams)
 
+-- what is ready stays so as marks are added
+pub ready-keeps : (marks more : Marks) (d : Delete) → ((s : ℕ) (p : Part) → marks s p ≡ true → more s p ≡ true) → isReady marks d ≡ true
+    → isReady more d ≡ true
+ready-keeps marks more d keeps r =
+    ⊎-elim (λ h. h)
+    (λ (o : OpenPart more d streams).
+    not-both (more (o .stream) (o .part)) (keeps (o .stream) (o .part) (ready-marked marks d (o .stream) (o .part) r (o .low) (o .named))) (o .unmarked))
+    (ready-or more d)
+
 -- ---- part numbers
 pub part-number : (n : ℕ) (p : Part) → partOf n ≡ some p → n ≡ partNumber p
 unfolding partOf

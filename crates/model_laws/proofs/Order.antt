@@ -69,7 +69,7 @@ decoder-order lo D (close k s) low a =
     decoder.close-ways (λ o. Ascending heldIndex lo (o .state .entries)) D (λ n e. a) k s (λ e. a)
 decoder-order lo D (collect room) low a =
     decoder.collect-ways (λ o. Ascending heldIndex lo (o .state .entries)) D (λ n e. a) room (λ e. a)
-    (λ h e f. asc-cut heldIndex (h .index) lo (D .entries) a)
+    (λ i e f. asc-cut heldIndex i lo (D .entries) a)
 decoder-order lo D (hold i) low a = decoder.hold-ways (λ o. Ascending heldIndex lo (o .state .entries)) D (λ n e. a) i (λ d e. a)
 decoder-order lo D (unread number) low a = a
 

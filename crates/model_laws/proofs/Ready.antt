@@ -14,7 +14,8 @@ use Rattle.model.specs.Decoder.{Decoder, deleteOf, readyDelete, ready, FormsDec
 use Rattle.model_laws.specs.Ready.{AbstractCouldStill, AbstractReadyHalf}
 use Rattle.model_laws.proofs.Marks.{OpenPart, part-low, ready-marked, ready-or}
 use Rattle.model_laws.proofs.CouldStill.{finished-refuses, open-takes}
-use Rattle.model_laws.proofs.Collecting.{delete-held, held-index, held-slot, none-ready, one-ready}
+use Rattle.model_laws.proofs.Forms.{delete-held}
+use Rattle.model_laws.proofs.Collecting.{held-index, held-slot, none-ready, one-ready}
 
 refers-itself : (i : ℕ) → Refers (indexed i ∷ []) i
 unfolding blockReferences

@@ -20,7 +20,7 @@ use Rattle.fields.specs.Form as form
 use Rattle.instructions.specs.Instruction.{Instruction, insert, delete, acknowledge, FineIndex, Manages, FineInstruction}
 use Rattle.blocks.specs.Representation.{Representation, AllFine}
 use Rattle.blocks.specs.Representation as representation
-use Rattle.model.specs.Table.{Ascending, look, lowest}
+use Rattle.model.specs.Table.{Ascending, look, first}
 use Rattle.model.specs.Outcome.{Output, nothing, instruction, block, fields, Outcome}
 use Rattle.model.specs.Decoder.{Decoder, readInstruction, FormsDecoder}
 use Rattle.model.specs.DecoderCalls.{DecoderCall, decoderCall}
@@ -29,44 +29,45 @@ use Rattle.model.specs.Encoder.{Sent, sentIndex, Encoder, serves, servesBoth, d
 use Rattle.model.specs.Encoder.{choose, FineSent, FormsEncoder}
 use Rattle.model.specs.EncoderCalls.{EncoderCall, encoderCall}
 use Rattle.model.specs.EncoderCalls as at-encoder
-use Rattle.model_laws.proofs.Tables.{nope, lowest-sound}
+use Rattle.model_laws.proofs.Tables.{nope, first-sound}
 use Rattle.model_laws.proofs.EncoderWays.{insert-ways, delete-ways, block-ways, acknowledged-ways}
 use Rattle.model_laws.proofs.DecoderWays as decoder
 use Rattle.model_laws.proofs.Forms.{freed-held}
+use Rattle.model_laws.proofs.Collecting.{held-index}
 use Rattle.model_laws.proofs.FormsSent.{new-fine}
 
 -- ---- the choice
 
 module _ (l : List Sent) (order : Ascending sentIndex 62 l) (entries : (i : ℕ) (e : Sent) → look sentIndex i l ≡ some e → FineSent e) where
   -- an entry that was found has an index that can be said
-  lowest-fine : (test : Sent → Bool) (e : Sent) → lowest sentIndex test l ≡ some e → (0 < e .index) × (e .index ≤ largest)
-  lowest-fine test e q =
-      let f : FineSent e = entries (e .index) e (lowest-sound sentIndex test 62 l e order q .0) in (omega arith, omega arith)
+  first-fine : (test : Sent → Bool) (e : Sent) → first sentIndex test l ≡ some e → (0 < e .index) × (e .index ≤ largest)
+  first-fine test e q =
+      let f : FineSent e = entries (e .index) e (first-sound sentIndex test 62 l e order q .0) in (omega arith, omega arith)
 
-  dynamic-name : (name : List ℕ) → length name ≤ 255 → (o : Option Sent) → lowest sentIndex (serves name) l ≡ o → FineName (dynamicName name o)
+  dynamic-name : (name : List ℕ) → length name ≤ 255 → (o : Option Sent) → first sentIndex (serves name) l ≡ o → FineName (dynamicName name o)
   unfolding dynamicName
   dynamic-name name h none q = h
-  dynamic-name name h (some e) q = lowest-fine (serves name) e q
+  dynamic-name name h (some e) q = first-fine (serves name) e q
 
   static-name : (name : List ℕ) → length name ≤ 255 → (o : StaticFound) → findName name ≡ o → FineName (staticName l name o)
   unfolding staticName
   static-name name h (At j) q = let f = name-found name 61 1 j q in (omega arith, omega arith)
-  static-name name h Nothing q = dynamic-name name h (lowest sentIndex (serves name) l) refl
+  static-name name h Nothing q = dynamic-name name h (first sentIndex (serves name) l) refl
 
   pub name-fine : (name : List ℕ) → length name ≤ 255 → FineName (chooseName l name)
   unfolding chooseName
   name-fine name h = static-name name h (findName name) refl
 
   module _ (f : Field) (fine : form.FineField f) where
-    dynamic-field : (o : Option Sent) → lowest sentIndex (servesBoth (f .name) (f .value)) l ≡ o → representation.FineRepresentation (dynamicField l f o)
+    dynamic-field : (o : Option Sent) → first sentIndex (servesBoth (f .name) (f .value)) l ≡ o → representation.FineRepresentation (dynamicField l f o)
     unfolding dynamicField
     dynamic-field none q = (omega arith, name-fine (f .name) (fine .name-short), fine .value-short)
-    dynamic-field (some e) q = lowest-fine (servesBoth (f .name) (f .value)) e q
+    dynamic-field (some e) q = first-fine (servesBoth (f .name) (f .value)) e q
 
     static-field : (o : StaticFound) → findBoth (f .name) (f .value) ≡ o → representation.FineRepresentation (staticField l f o)
     unfolding staticField
     static-field (At j) q = let g = both-found (f .name) (f .value) 61 1 j q in (omega arith, omega arith)
-    static-field Nothing q = dynamic-field (lowest sentIndex (servesBoth (f .name) (f .value)) l) refl
+    static-field Nothing q = dynamic-field (first sentIndex (servesBoth (f .name) (f .value)) l) refl
 
     pub choice-fine : representation.FineRepresentation (choose l f)
     unfolding choose
@@ -154,7 +155,7 @@ module _ (D : Decoder) (F : FormsDecoder D) where
   ack-call (at-decoder.collect room) =
       decoder.collect-ways Acks D (λ a z. tt) room
       (λ e. tt)
-      (λ h e fits. (h .index, refl, F .entries (h .index) h (freed-held D F h e .0) .index))
+      (λ i e fits. let h = freed-held D F i e in (i, refl, held-index D F i (h .0) (h .1)))
   ack-call (at-decoder.hold i) = decoder.hold-ways Acks D (λ a z. tt) i (λ d e. tt)
   ack-call (at-decoder.unread number) = tt
 

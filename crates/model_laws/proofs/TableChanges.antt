@@ -95,40 +95,40 @@ module _ (D : Decoder) (F : FormsDecoder D) where
         }
 
   -- an entry freed, with its delete
-  module _ (h : Held) (there : look heldIndex (h .index) (D .entries) ≡ some h) where
-    cut-entries : (j : ℕ) (k : Held) → look heldIndex j (cut heldIndex (h .index) (D .entries)) ≡ some k → FineHeld k
+  module _ (i : ℕ) (h : Held) (there : look heldIndex i (D .entries) ≡ some h) where
+    cut-entries : (j : ℕ) (k : Held) → look heldIndex j (cut heldIndex i (D .entries)) ≡ some k → FineHeld k
     cut-entries j k e =
-        pick-both (λ (o : Option Held). o ≡ some k → FineHeld k) (eqb (h .index) j) none (look heldIndex j (D .entries))
+        pick-both (λ (o : Option Held). o ≡ some k → FineHeld k) (eqb i j) none (look heldIndex j (D .entries))
         (λ t q. nope (cc))
         (λ t q. F .entries j k q)
-        (sym (look-cut heldIndex (h .index) j 62 (D .entries) (F .order)) ∙ e)
+        (sym (look-cut heldIndex i j 62 (D .entries) (F .order)) ∙ e)
 
     -- a delete that stays is another's
-    cut-deletes : (j : ℕ) (d : Delete) → look deleteIndex j (cut deleteIndex (h .index) (D .deletes)) ≡ some d → FineDelete (without D (h .index)) d
+    cut-deletes : (j : ℕ) (d : Delete) → look deleteIndex j (cut deleteIndex i (D .deletes)) ≡ some d → FineDelete (without D i) d
     unfolding without
     cut-deletes j d e =
-        pick-both (λ (o : Option Delete). o ≡ some d → FineDelete (without D (h .index)) d) (eqb (h .index) j) none (look deleteIndex j (D .deletes))
+        pick-both (λ (o : Option Delete). o ≡ some d → FineDelete (without D i) d) (eqb i j) none (look deleteIndex j (D .deletes))
         (λ t q. nope (cc))
         (λ t q.
         let x = F .deletes j d q in
-        let other : eqb (h .index) (d .index) ≡ false = ap (eqb (h .index)) (look-index deleteIndex j (D .deletes) d q) ∙ t in
+        let other : eqb i (d .index) ≡ false = ap (eqb i) (look-index deleteIndex j (D .deletes) d q) ∙ t in
         record {
           nontrailer = x .nontrailer;
           trailer = x .trailer;
           held =
-              rw (look-cut heldIndex (h .index) (d .index) 62 (D .entries) (F .order), other) (x .held);
+              rw (look-cut heldIndex i (d .index) 62 (D .entries) (F .order), other) (x .held);
         })
-        (sym (look-cut-distinct deleteIndex (h .index) j (D .deletes) (F .once)) ∙ e)
+        (sym (look-cut-distinct deleteIndex i j (D .deletes) (F .once)) ∙ e)
 
-    pub forms-free : FormsDecoder (without D (h .index))
+    pub forms-free : FormsDecoder (without D i)
     unfolding without heldSize
     forms-free =
         record {
           limit = F .limit;
-          fits = let t = total-cut heldIndex (λ x. size (x .entry)) (h .index) (D .entries) h there in let f = F .fits in omega arith;
-          few = let t = length-cut heldIndex (h .index) (D .entries) h there in let f = F .few in omega arith;
-          order = asc-cut heldIndex (h .index) 62 (D .entries) (F .order);
+          fits = let t = total-cut heldIndex (λ x. size (x .entry)) i (D .entries) h there in let f = F .fits in omega arith;
+          few = let t = length-cut heldIndex i (D .entries) h there in let f = F .few in omega arith;
+          order = asc-cut heldIndex i 62 (D .entries) (F .order);
           entries = cut-entries;
           deletes = cut-deletes;
-          once = distinct-cut deleteIndex (h .index) (D .deletes) (F .once);
+          once = distinct-cut deleteIndex i (D .deletes) (F .once);
         }

@@ -1,5 +1,5 @@
--- Laws of a table, a list of entries ascending by index: what is found after an entry is put in, cut out or changed in place, the lowest
--- entry of a kind, and the lowest vacant index. By induction over the list.
+-- Laws of a table, a list of entries ascending by index: what is found after an entry is put in, cut out or changed in place, the first
+-- entry of a kind, which is the lowest, and the lowest vacant index. By induction over the list.
 use mathlib.Core.Path.{_≡_, refl, sym, ap, _∙_}
 use Prim.Native.Nat.{ℕ, suc, _+_, _≤_, _<_}
 use native.Mathlib.Omega.{arith}
@@ -11,7 +11,7 @@ use lib.Dec.{ltb, eqb}
 use borrow.Author.Tests.{eqb-true, eqb-false, ltb-true, ltb-false, eq-eqb, ne-eqb}
 use Rattle.memory.specs.Choice.{pick}
 use Rattle.memory.proofs.Order.{pick-both, pick-true, pick-false}
-use Rattle.model.specs.Table.{Ascending, look, put, cut, lowest, vacantFrom, total}
+use Rattle.model.specs.Table.{Ascending, look, put, cut, first, vacantFrom, total}
 
 -- what is refuted, by two constructors that are one
 pub nope {κ} : {X : Type κ} → _≡_ {A = ℕ} 0 1 → X
@@ -163,15 +163,15 @@ module _ {X : Type 0} (index : X → ℕ) where
     total-map w h [] = refl
     total-map w h (x ∷ l) = rw (h x, total-map w h l)
 
-  -- ---- the lowest entry of a kind
-  pub lowest-sound : (test : X → Bool) (lo : ℕ) (l : List X) (x : X) → Ascending index lo l → lowest index test l ≡ some x
+  -- ---- the first entry of a kind
+  pub first-sound : (test : X → Bool) (lo : ℕ) (l : List X) (x : X) → Ascending index lo l → first index test l ≡ some x
       → (look index (index x) l ≡ some x) × (test x ≡ true)
-  unfolding lowest look
-  lowest-sound test lo [] x a h = nope (cc)
-  lowest-sound test lo (y ∷ l) x a h = go (test y) refl h (λ k. lowest-sound test (suc (index y)) l x (a .1) k)
+  unfolding first look
+  first-sound test lo [] x a h = nope (cc)
+  first-sound test lo (y ∷ l) x a h = go (test y) refl h (λ k. first-sound test (suc (index y)) l x (a .1) k)
     where
-      go : (b : Bool) → test y ≡ b → pick b (some y) (lowest index test l) ≡ some x
-          → (lowest index test l ≡ some x → (look index (index x) l ≡ some x) × (test x ≡ true))
+      go : (b : Bool) → test y ≡ b → pick b (some y) (first index test l) ≡ some x
+          → (first index test l ≡ some x → (look index (index x) l ≡ some x) × (test x ≡ true))
           → (pick (eqb (index y) (index x)) (some y) (look index (index x) l) ≡ some x) × (test x ≡ true)
       go true e k r = let z : y ≡ x = cc in (pick-yes (index y) (index x) _ _ (ap index z) ∙ k, rw z at e)
       go false e k r =
@@ -182,25 +182,25 @@ module _ {X : Type 0} (index : X → ℕ) where
             q .1,
           )
 
-  pub lowest-none : (test : X → Bool) (l : List X) (i : ℕ) (x : X) → lowest index test l ≡ none → look index i l ≡ some x → test x ≡ true → ⊥
-  unfolding lowest look
-  lowest-none test [] i x h k t = nope (cc)
-  lowest-none test (y ∷ l) i x h k t = go (test y) refl h (eqb (index y) i) k (λ u v. lowest-none test l i x u v t)
+  pub first-none : (test : X → Bool) (l : List X) (i : ℕ) (x : X) → first index test l ≡ none → look index i l ≡ some x → test x ≡ true → ⊥
+  unfolding first look
+  first-none test [] i x h k t = nope (cc)
+  first-none test (y ∷ l) i x h k t = go (test y) refl h (eqb (index y) i) k (λ u v. first-none test l i x u v t)
     where
-      go : (b : Bool) → test y ≡ b → pick b (some y) (lowest index test l) ≡ none → (d : Bool) → pick d (some y) (look index i l) ≡ some x
-          → (lowest index test l ≡ none → look index i l ≡ some x → ⊥) → ⊥
+      go : (b : Bool) → test y ≡ b → pick b (some y) (first index test l) ≡ none → (d : Bool) → pick d (some y) (look index i l) ≡ some x
+          → (first index test l ≡ none → look index i l ≡ some x → ⊥) → ⊥
       go true e u d v r = nope (cc)
       go false e u true v r = let s : y ≡ x = cc in let q = ap test s in nope (cc)
       go false e u false v r = r u v
 
-  pub lowest-first : (test : X → Bool) (lo : ℕ) (l : List X) (x : X) (i : ℕ) (y : X) → Ascending index lo l → lowest index test l ≡ some x
+  pub first-lowest : (test : X → Bool) (lo : ℕ) (l : List X) (x : X) (i : ℕ) (y : X) → Ascending index lo l → first index test l ≡ some x
       → look index i l ≡ some y → test y ≡ true → index x ≤ i
-  unfolding lowest look
-  lowest-first test lo [] x i y a h k t = nope (cc)
-  lowest-first test lo (z ∷ l) x i y a h k t = go (test z) refl h (eqb (index z) i) refl k (λ u v. lowest-first test (suc (index z)) l x i y (a .1) u v t)
+  unfolding first look
+  first-lowest test lo [] x i y a h k t = nope (cc)
+  first-lowest test lo (z ∷ l) x i y a h k t = go (test z) refl h (eqb (index z) i) refl k (λ u v. first-lowest test (suc (index z)) l x i y (a .1) u v t)
     where
-      go : (b : Bool) → test z ≡ b → pick b (some z) (lowest index test l) ≡ some x → (d : Bool) → eqb (index z) i ≡ d
-          → pick d (some z) (look index i l) ≡ some y → (lowest index test l ≡ some x → look index i l ≡ some y → index x ≤ i) → index x ≤ i
+      go : (b : Bool) → test z ≡ b → pick b (some z) (first index test l) ≡ some x → (d : Bool) → eqb (index z) i ≡ d
+          → pick d (some z) (look index i l) ≡ some y → (first index test l ≡ some x → look index i l ≡ some y → index x ≤ i) → index x ≤ i
       go true e u true f v r = let s : z ≡ x = cc in omega (arith, ap index s, eqb-true (index z) i f)
       go true e u false f v r =
           let s : z ≡ x = cc in
@@ -209,12 +209,12 @@ module _ {X : Type 0} (index : X → ℕ) where
       go false e u true f v r = let s : z ≡ y = cc in let q = ap test s in nope (cc)
       go false e u false f v r = r u v
 
-  pub lowest-some : (test : X → Bool) (l : List X) (i : ℕ) (x : X) → look index i l ≡ some x → test x ≡ true
-      → (y : X) × (lowest index test l ≡ some y)
-  lowest-some test l i x h t = go (lowest index test l) refl
+  pub first-some : (test : X → Bool) (l : List X) (i : ℕ) (x : X) → look index i l ≡ some x → test x ≡ true
+      → (y : X) × (first index test l ≡ some y)
+  first-some test l i x h t = go (first index test l) refl
     where
-      go : (o : Option X) → lowest index test l ≡ o → (y : X) × (lowest index test l ≡ some y)
-      go none e = absurd (lowest-none test l i x e h t)
+      go : (o : Option X) → first index test l ≡ o → (y : X) × (first index test l ≡ some y)
+      go none e = absurd (first-none test l i x e h t)
       go (some y) e = (y, e)
 
   -- ---- the lowest vacant index

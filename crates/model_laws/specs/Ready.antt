@@ -5,7 +5,7 @@ use mathlib.Core.Logic.{_↔_}
 use Prim.Native.Nat.{ℕ, _≤_, _<_}
 use mathlib.Core.Bool.{true, false}
 use mathlib.Core.Option.{none, some}
-use mathlib.Core.List.{List, [], _∷_}
+use mathlib.Core.List.{List, [], _∷_, _++_, List·Memᴰ}
 use lib.ListN.{length}
 use Rattle.integers.specs.Answers.{no-room}
 use Rattle.instructions.specs.Instruction.{acknowledge, Manages, FineInstruction, instructionWire}
@@ -38,10 +38,13 @@ pub record AbstractCouldStill (D : Decoder) (s : ℕ) (p : Part) (rs : List Repr
   pub room : ℕ
   pub accepted : decoderCall (afterDecoder D first) (block s (partNumber p) rs room) .answer .number ≡ 0
 
--- the ready entry of lowest index
-pub record LowestReady (D : Decoder) (i : ℕ) : Type 0 where
-  pub ready-now : ready D i ≡ true
-  pub first : (k : ℕ) → ready D k ≡ true → i ≤ k
+-- d is "the ready entry whose delete arrived first": it is ready, and none is whose delete arrived before it
+pub record FirstReady (D : Decoder) (d : Delete) : Type 0 where
+  pub before : List Delete
+  pub behind : List Delete
+  pub arrived : D .deletes ≡ before ++ (d ∷ behind)
+  pub ready-now : ready D (d .index) ≡ true
+  pub none-before : (e : Delete) → List·Memᴰ e before → ready D (e .index) ≡ false
 
 pub record AbstractReadyHalf (D : Decoder) : Type 0 where
   -- "a slot under deletion is ready to be freed exactly when no block that could still be accepted, in a part of a stream that the deletion
@@ -51,10 +54,11 @@ pub record AbstractReadyHalf (D : Decoder) : Type 0 where
       ↔ ((s : ℕ) (p : Part) (rs : List Representation) → namesPart d s p ≡ true → Refers rs i → AbstractCouldStill D s p rs → ⊥)
   -- "A collect with room for its answer then frees one exactly when one is ready."
   pub none-ready : ((i : ℕ) → ready D i ≡ false) → (room : ℕ) → decoderCall D (collect room) ≡ finish D 0 0 nothing
-  pub one-ready : (k : ℕ) → ready D k ≡ true → (i : ℕ) × LowestReady D i
-      × ((room : ℕ) → length (instructionWire (acknowledge i)) ≤ room
-      → decoderCall D (collect room) ≡ finish (without D i) (length (instructionWire (acknowledge i))) 0 (instruction (acknowledge i)))
-      × ((room : ℕ) → room < length (instructionWire (acknowledge i)) → decoderCall D (collect room) ≡ refuse D no-room)
+  pub one-ready : (k : ℕ) → ready D k ≡ true → (d : Delete) × FirstReady D d
+      × ((room : ℕ) → length (instructionWire (acknowledge (d .index))) ≤ room
+      → decoderCall D (collect room)
+      ≡ finish (without D (d .index)) (length (instructionWire (acknowledge (d .index)))) 0 (instruction (acknowledge (d .index))))
+      × ((room : ℕ) → room < length (instructionWire (acknowledge (d .index))) → decoderCall D (collect room) ≡ refuse D no-room)
 
 -- "For every list of decoder calls from a fresh table .. after it"; "What stands before "Hence" also holds from other memory that forms a state."
 pub record AbstractReady : Type 0 where

@@ -43,7 +43,7 @@ pointed-few (r ∷ rs) =
 -- ---- places in the deletes
 
 -- no delete has the index i
-abbrev Absent : ℕ → List Delete → Type 0
+abbrev pub Absent : ℕ → List Delete → Type 0
 Absent i ds = (j : ℕ) → j < length ds → getD (indexes ds) j 0 ≡ i → ⊥
 
 absent-look : (i : ℕ) (ds : List Delete) → Absent i ds → look deleteIndex i ds ≡ none
@@ -52,7 +52,7 @@ absent-look i [] f = refl
 absent-look i (d ∷ ds) f =
     pick-no (d .index) i (some d) (look deleteIndex i ds) (λ e. f 0 (omega arith) e) ∙ absent-look i ds (λ j h. f (suc j) (omega arith))
 
-look-absent : (i : ℕ) (ds : List Delete) → look deleteIndex i ds ≡ none → Absent i ds
+pub look-absent : (i : ℕ) (ds : List Delete) → look deleteIndex i ds ≡ none → Absent i ds
 look-absent i [] e j h k = absurd (omega arith)
 look-absent i (d ∷ ds) e zero h k = look-none deleteIndex i d ds e .0 k
 look-absent i (d ∷ ds) e (suc j) h k = look-absent i ds (look-none deleteIndex i d ds e .1) j (omega arith) k

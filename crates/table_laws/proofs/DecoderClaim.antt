@@ -23,6 +23,7 @@ use Rattle.table_laws.proofs.DecoderSearches.{
   deletes-few,
   delete-found,
   delete-good,
+  kept-row,
 }
 use Rattle.table_laws.proofs.DecoderFronts.{start-decoder, over-decoder, end-decoder, finish-decoder}
 use Rattle.table_laws.proofs.DecoderInsert.{opening-decoder, named-decoder, insert-decoder}
@@ -44,6 +45,7 @@ module _ (m : List ℕ) (D : Decoder) (H : HoldsDecoder D m) where
     nowhere = λ x p e. missing-at D m H x p e .looked;
     live = λ x p e z. not-deleted D m H x p (found-at D m H x p e) z;
     deleted = λ x p k e s. let F = found-at D m H x p e in (delete-found D m H x p F k s, delete-good D m H x p F k s);
+    kept = λ k h. kept-row D m H k h;
     opening = λ x p name value e room few. opening-decoder D m H x p (missing-at D m H x p e) name value room few;
     named = λ x p y row e d. named-decoder D m H x p (missing-at D m H x p e) row (found-below D m H y row (found-at D m H y row d));
     insert = λ x p name value e fine room few. insert-decoder D m H x p (missing-at D m H x p e) name value fine room few;

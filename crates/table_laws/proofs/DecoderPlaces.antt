@@ -1,19 +1,20 @@
 -- Where the delete of an entry stands among the deletes, and where it stands after a delete is kept or dropped. By induction over the deletes.
-use Prim.Native.Nat.{ℕ, suc, _+_, _-_, _≤_}
+use Prim.Native.Nat.{ℕ, zero, suc, _+_, _-_, _≤_, _<_}
 use mathlib.Core.Path.{_≡_, refl, sym, _∙_}
 use native.Mathlib.Omega.{arith}
 use mathlib.Core.Option.{none, some}
 use mathlib.Core.List.{List, [], _∷_, _++_}
 use lib.Dec.{eqb, ltb}
-use lib.ListN.{length}
+use lib.ListN.{length, getD}
 use borrow.Author.Tests.{lt-ltb, le-ltb}
 use Rattle.memory.specs.Choice.{pick}
 use Rattle.memory.proofs.Order.{pick-true, pick-false}
-use Rattle.model.specs.Table.{look}
+use Rattle.model.specs.Table.{Distinct, look}
 use Rattle.model.specs.Parts.{Delete}
 use Rattle.model.specs.Decoder.{deleteIndex}
 use Rattle.model_laws.proofs.Tables.{pick-eq, pick-yes, pick-no, look-none}
 use Rattle.state.specs.DecoderState.{placeFrom}
+use Rattle.state_laws.proofs.Pointing.{indexes, look-absent}
 use Rattle.table_laws.proofs.Finding.{FoundAt, found-here, found-next}
 
 module _ (i : ℕ) where
@@ -85,3 +86,13 @@ module _ (i : ℕ) where
       (c .index) i (k + 1) (placeFrom (k + 1) i (ds ++ d ∷ es))
       (λ q. pick-yes (c .index) i (k + 1) (placeFrom (k + 1) i (ds ++ es)) q ∙ lower-no n (k + 1) (omega arith))
       (λ q. pick-no (c .index) i (k + 1) (placeFrom (k + 1) i (ds ++ es)) q ∙ place-dropped n (k + 1) ds d es (omega arith) h)
+
+-- where no two deletes have one index, the place of each delete's index is its own
+pub place-index : (k j : ℕ) (ds : List Delete) → Distinct deleteIndex ds → j < length ds → placeFrom k (getD (indexes ds) j 0) ds ≡ k + suc j
+unfolding placeFrom
+place-index k j [] o h = absurd (omega arith)
+place-index k zero (d ∷ ds) o h = pick-yes (d .index) (d .index) (k + 1) (placeFrom (k + 1) (d .index) ds) refl
+place-index k (suc j) (d ∷ ds) o h =
+    pick-no (d .index) (getD (indexes ds) j 0) (k + 1) (placeFrom (k + 1) (getD (indexes ds) j 0) ds)
+    (λ e. look-absent (d .index) ds (o .0) j (omega arith) (sym e))
+    ∙ omega (arith, place-index (k + 1) j ds (o .1) (omega arith))

@@ -6,7 +6,7 @@ use native.Mathlib.Omega.{arith}
 use mathlib.Core.Bool.{true, false}
 use mathlib.Core.Option.{Option, none, some}
 use mathlib.Core.List.{List, [], _∷_, _++_, map, append-assoc, map-append}
-use lib.ListN.{length, length-append, length-map}
+use lib.ListN.{length, getD, length-append, length-map}
 use Rattle.memory.specs.Bytes.{Has}
 use Rattle.memory.proofs.Order.{not-both}
 use Rattle.memory.proofs.Places.{has-right}
@@ -15,19 +15,22 @@ use Rattle.model.specs.Parts.{Delete}
 use Rattle.model.specs.Decoder.{Held, heldIndex, deleteIndex, Decoder, heldSize, isSome}
 use Rattle.model_laws.proofs.Tables.{pick-yes, look-index, look-cut}
 use Rattle.parts.specs.Hold.{GoodDelete}
-use Rattle.state.specs.Layout.{deletePlace, heldOf, countOf, deleteCount, statusAt}
+use Rattle.state.specs.Layout.{deletePlace, heldOf, countOf, deleteCount, deleteIndexAt, statusAt}
 use Rattle.state.specs.Rows.{Row, rowsSize}
 use Rattle.state.specs.DecoderState.{deleteAt, deletesOf, deleteBytes, deletesBytes, placeFrom, rowOfHeld, decoderFront}
 use Rattle.state_laws.proofs.FrontRead.{read-held, read-count, read-deletes, read-split}
 use Rattle.state_laws.proofs.RowsRead.{RowRead}
 use Rattle.state_laws.proofs.Each.{Each}
-use Rattle.state_laws.proofs.DeletesRead.{FineLists, length-deleteBytes, deletes-back}
-use Rattle.state_laws.proofs.Pointing.{pointed, tied-counted}
+use Rattle.state_laws.proofs.DeletesRead.{FineLists, length-deleteBytes, deletes-back, index-of}
+use Rattle.state_laws.proofs.Pointing.{indexes, look-absent, pointed, tied-counted}
 use Rattle.state_laws.proofs.HeldRows.{held-back, rows-size, fits-order, fits-tied, fits-few, fits-lists}
 use Rattle.state_laws.proofs.DecoderHolds.{HoldsDecoder}
+use Rattle.table_search.specs.Search.{findFrom}
+use Rattle.table_search.specs.declared.find.Found.{Found}
+use Rattle.table_search.specs.declared.find.Found.the-variants.{At, Vacant}
 use Rattle.table_laws.specs.DecoderChanges.{found, missing, heldAt}
 use Rattle.table_laws.proofs.Finding.{FoundAt, MissingAt, found-front, missing-front}
-use Rattle.table_laws.proofs.DecoderPlaces.{none-place, place-found}
+use Rattle.table_laws.proofs.DecoderPlaces.{none-place, place-found, place-index}
 use Rattle.table_laws.proofs.DecoderRows.{pointed-less}
 
 -- ---- deletes split at a place: 76 bytes each
@@ -196,3 +199,26 @@ module _ (D : Decoder) (m : List ℕ) (H : HoldsDecoder D m) where
       delete-good =
           let f : FineLists (deleteAt m k) = subst FineLists delete-is (delete-halves .after .0) in
           record { long = H .long; few = omega (arith, delete-below, fits-few D (H .fits)); nontrailer = f .nontrailer; trailer = f .trailer }
+
+  -- ---- the other way round: each delete has its entry, and that row points at it
+
+  delete-row : (k : ℕ) → k < length ds → (p : ℕ) × found m (getD (indexes ds) k 0) p × (statusAt m p ≡ suc k)
+  delete-row k h = go (findFrom m x (countOf m) 0) refl
+    where
+      x : ℕ
+      x = getD (indexes ds) k 0
+
+      go : (f : Found) → findFrom m x (countOf m) 0 ≡ f → (p : ℕ) × found m x p × (statusAt m p ≡ suc k)
+      go (At p) e = (p, e, omega (arith, status-found x p (found-at x p e), place-index 0 k ds (H .fits .forms .once) h))
+      go (Vacant p) e = absurd (look-absent x ds (no-delete D m H x (missing-at x p e .looked)) k h refl)
+
+  index-is : (k : ℕ) → k < length ds → getD (indexes ds) k 0 ≡ deleteIndexAt m k
+  index-is k h =
+      let e : deletesOf m 0 (length ds) ≡ ds = deletes-back m 0 ds (fits-lists D (H .fits)) (H .deletes) .0 in
+      let z : 0 + k ≡ k = omega arith in
+      ap (λ (l : List Delete). getD (indexes l) k 0) (sym e) ∙ (rw z at (index-of m 0 (length ds) k h))
+
+  pub kept-row : (k : ℕ) → k < deleteCount m → (p : ℕ) × found m (deleteIndexAt m k) p × (statusAt m p ≡ suc k)
+  kept-row k h =
+      let l : k < length ds = omega (arith, deletes-are) in
+      subst (λ (x : ℕ). (p : ℕ) × found m x p × (statusAt m p ≡ suc k)) (index-is k l) (delete-row k l)

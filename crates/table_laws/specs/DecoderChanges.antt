@@ -11,7 +11,7 @@ use Rattle.marks.specs.Marks.{cleared}
 use Rattle.model.specs.Table.{look, put}
 use Rattle.model.specs.Parts.{Part, nontrailer, mark, markBoth, blockMarks, Delete, streams}
 use Rattle.model.specs.Decoder.{Held, heldIndex, Decoder, heldSize, deleteOf, startDecoder, withEntries, withDeletes, withFinished, without}
-use Rattle.state.specs.Layout.{decoderLength, decoderRole, marksPlace, limitOf, heldOf, countOf, deleteCount, statusAt}
+use Rattle.state.specs.Layout.{decoderLength, decoderRole, marksPlace, limitOf, heldOf, countOf, deleteCount, deleteIndexAt, statusAt}
 use Rattle.state.specs.Rows.{nameAt, valueAt}
 use Rattle.state.specs.DecoderState.{deleteAt, decoderOf, overlayDecoder}
 use Rattle.state.specs.Forms.{formsDecoder}
@@ -49,6 +49,8 @@ pub record DecoderChanges (m : List ℕ) (D : Decoder) : Type 0 where
   pub nowhere : (x place : ℕ) → missing m x place → look heldIndex x (D .entries) ≡ none
   pub live : (x place : ℕ) → found m x place → statusAt m place ≡ 0 → deleteOf D x ≡ none
   pub deleted : (x place k : ℕ) → found m x place → statusAt m place ≡ suc k → (deleteOf D x ≡ some (deleteAt m k)) × GoodDelete m k
+  -- each delete has its entry, whose row points at it
+  pub kept : (k : ℕ) → k < deleteCount m → (place : ℕ) × found m (deleteIndexAt m k) place × (statusAt m place ≡ suc k)
   -- ---- an entry put in: "otherwise room is always found"
   pub opening : (x place name value : ℕ) → missing m x place → heldOf m + (name + value + 32) ≤ 4096 → countOf m < 128 → Opening m place name value
   pub named : (x place y row : ℕ) → missing m x place → found m y row → NamedHere m place row

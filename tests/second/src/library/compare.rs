@@ -1,5 +1,6 @@
 //! One step at a time through the second program and, where it is lent, the library; everything that a call may show is compared.
 use super::calls::{inputs_of, Library};
+use super::deletions::Deletions;
 use super::layout::{self, DECODER_BYTES, ENCODER_BYTES};
 use super::room;
 use super::tally::Tally;
@@ -41,6 +42,8 @@ pub struct Bench<'a> {
     library: Option<&'a mut Library>,
     /// The encoder's memory before the last block that was written.
     before: Vec<u8>,
+    /// What calls and answers say of the decoder's deletions.
+    pub deletions: Deletions,
     pub steps: Vec<Step>,
     pub calls: usize,
     pub tally: Tally,
@@ -56,8 +59,8 @@ fn length_of(end: End) -> usize {
 impl<'a> Bench<'a> {
     pub fn new(library: Option<&'a mut Library>) -> Bench<'a> {
         let sides = [Side::new(), Side::new()];
-        let (second, tally) = (Second::default(), Tally::default());
-        let mut bench = Bench { second, sides, library, before: Vec::new(), steps: Vec::new(), calls: 0, tally };
+        let (second, deletions, tally) = (Second::default(), Deletions::of(None), Tally::default());
+        let mut bench = Bench { second, sides, library, before: Vec::new(), deletions, steps: Vec::new(), calls: 0, tally };
         if let Some(library) = &mut bench.library {
             library.restart();
         }
@@ -78,7 +81,10 @@ impl<'a> Bench<'a> {
             library.give(end, &side.expected);
         }
         match end {
-            End::Decoder => self.second.decoder = layout::decoder_in(&side.expected),
+            End::Decoder => {
+                self.second.decoder = layout::decoder_in(&side.expected);
+                self.deletions = Deletions::of(self.second.decoder.as_ref());
+            }
             End::Encoder => self.second.encoder = layout::encoder_in(&side.expected),
         }
     }
@@ -121,11 +127,13 @@ impl<'a> Bench<'a> {
             Some(_) => self.compare(&call, &outcome),
             None => Ok(()),
         };
+        let claimed = compared.and_then(|()| self.deletions.happened(&call, &outcome));
         self.steps.push(Step::Call(call));
-        match compared {
-            Ok(()) => Ok(outcome),
-            Err(what) => self.broken(what),
+        match claimed {
+            Ok(collected) => self.tally.collected(collected),
+            Err(what) => return self.broken(what),
         }
+        Ok(outcome)
     }
 
     /// Any step.

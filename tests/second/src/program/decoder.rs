@@ -124,14 +124,15 @@ impl Decoder {
         of_part(0).chain(of_part(1))
     }
 
+    /// Frees the ready entry whose delete came first. Where its acknowledgement has no room no other is freed instead.
     pub fn collect(&mut self, room: usize) -> Answer<Done> {
-        let ready = self.deletes.iter().filter(|delete| self.unfinished(delete).next().is_none());
-        let Some(index) = ready.map(|delete| delete.index).min() else {
+        let Some(place) = self.deletes.iter().position(|delete| self.unfinished(delete).next().is_none()) else {
             return Ok(Done::default());
         };
+        let index = self.deletes[place].index;
         let done = Done::writing(instructions::written(&Instruction::Acknowledge { index }), room)?;
         self.entries.remove(&index);
-        self.deletes.retain(|delete| delete.index != index);
+        self.deletes.remove(place);
         Ok(done)
     }
 

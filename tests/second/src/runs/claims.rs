@@ -1,7 +1,11 @@
-//! Demand 3 on what is read and offered, held against calls and answers alone.
+//! Demand 3 on what is read, offered and asked, held against calls and answers alone.
+use std::collections::BTreeSet;
+
 use super::history::History;
+use crate::library::compare::{Bench, Ran};
 use crate::program::blocks;
-use crate::program::call::Outcome;
+use crate::program::call::{Call, Outcome};
+use crate::random::Random;
 
 /// A block that was written and not decoded yet.
 pub struct Block {
@@ -45,4 +49,40 @@ pub fn offered(block: &Block, outcome: &Outcome, history: &History, read: usize)
         _ => "a block that keeps the rules is refused as faulty",
     };
     Err(wrong.to_string())
+}
+
+/// Asks about one entry under deletion.
+pub fn ask_one(random: &mut Random, bench: &mut Bench) -> Ran<()> {
+    let indexes = bench.deletions.indexes();
+    if indexes.is_empty() {
+        bench.call(Call::DecoderHold { index: random.between(62, 70) })?;
+        return Ok(());
+    }
+    ask(*random.pick(&indexes), bench)
+}
+
+pub fn ask_all(bench: &mut Bench) -> Ran<()> {
+    bench.deletions.indexes().into_iter().try_for_each(|index| ask(index, bench))
+}
+
+fn ask(index: u64, bench: &mut Bench) -> Ran<()> {
+    let outcome = bench.call(Call::DecoderHold { index })?;
+    let (count, lowest) = bench.deletions.holding(index);
+    if (outcome.answer, outcome.first, outcome.second) == (0, count, lowest) {
+        return Ok(());
+    }
+    bench.broken(format!("{count} parts, the lowest of stream {lowest}, hold {index} back by calls and answers"))
+}
+
+/// Offers empty blocks, which were not written: each is taken exactly when its part is not finished by calls and answers. The link's rules
+/// are not kept from then on.
+pub fn try_all(streams: BTreeSet<u64>, bench: &mut Bench) -> Ran<()> {
+    for (stream, part) in streams.into_iter().flat_map(|stream| [(stream, 0), (stream, 0), (stream, 1), (stream, 0), (stream, 1)]) {
+        let taken = bench.deletions.takes(stream, part);
+        let outcome = bench.call(Call::DecoderBlock { stream, part, bytes: Vec::new(), room: 0 })?;
+        if outcome.answer != if taken { 0 } else { 11 } {
+            return bench.broken(format!("part {part} of stream {stream} takes blocks by calls and answers: {taken}"));
+        }
+    }
+    Ok(())
 }

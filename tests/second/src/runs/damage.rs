@@ -15,6 +15,9 @@ pub fn run(style: Style, mut random: Random, calls: usize, bench: &mut Bench) ->
     while bench.calls < calls {
         if random.percent(40) {
             made_up::lay(&mut random, bench);
+            if random.percent(50) {
+                hostile::collect_all(&mut random, bench)?;
+            }
         } else {
             hostile::start(&mut random, bench)?;
         }

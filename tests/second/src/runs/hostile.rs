@@ -23,6 +23,9 @@ pub fn run(style: Style, mut random: Random, calls: usize, bench: &mut Bench) ->
         if random.percent(1) {
             on_short_memory(&mut random, bench, &words)?;
         }
+        if random.percent(1) {
+            collect_all(&mut random, bench)?;
+        }
         let call = call(&mut random, bench, &words, streams);
         let call = roomed(&mut random, bench, call);
         bench.call(call)?;
@@ -48,6 +51,20 @@ pub fn start(random: &mut Random, bench: &mut Bench) -> Ran<()> {
     bench.call(Call::DecoderStart { limit: one })?;
     bench.call(Call::EncoderStart { limit: other })?;
     Ok(())
+}
+
+/// The most bytes of an acknowledgement.
+const ACKNOWLEDGEMENT_MOST: u64 = 5;
+
+/// Collects until nothing is freed, as a host does, now and then with room for few acknowledgements or for none.
+pub fn collect_all(random: &mut Random, bench: &mut Bench) -> Ran<()> {
+    loop {
+        let room = if random.percent(25) { random.below(ACKNOWLEDGEMENT_MOST) } else { ACKNOWLEDGEMENT_MOST };
+        let outcome = bench.call(Call::DecoderCollect { room: room as usize })?;
+        if outcome.output.is_empty() && outcome.answer != 12 {
+            return Ok(());
+        }
+    }
 }
 
 /// A call on a part of an end's memory.

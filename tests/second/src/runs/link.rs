@@ -73,10 +73,10 @@ pub fn run(kind: Kind, style: Style, mut random: Random, calls: usize, bench: &m
             link.act(quiet)?;
         }
     }
-    link.history.ask_all(link.bench)?;
+    claims::ask_all(link.bench)?;
     if kind == Kind::Refused {
         let streams = link.streams.some_of_all(&mut link.random);
-        link.history.try_all(streams, link.bench)?;
+        claims::try_all(streams, link.bench)?;
     }
     Ok(())
 }
@@ -100,7 +100,7 @@ impl Link<'_, '_> {
             Act::Reset => self.reset(),
             Act::Collect => self.collect(),
             Act::Acknowledge => self.acknowledge(),
-            Act::Ask => self.history.ask_one(&mut self.random, self.bench),
+            Act::Ask => claims::ask_one(&mut self.random, self.bench),
             Act::Noise => self.noise(),
         }
     }
@@ -202,7 +202,6 @@ impl Link<'_, '_> {
         if outcome.done() {
             self.blocks.swap_remove(place);
             self.streams.decoded(stream, part);
-            self.history.decoded(stream, part);
         }
         Ok(())
     }
@@ -213,7 +212,6 @@ impl Link<'_, '_> {
         };
         self.bench.call(Call::DecoderOver { stream })?;
         self.streams.said_over(stream);
-        self.history.over(stream);
         Ok(())
     }
 
@@ -223,7 +221,6 @@ impl Link<'_, '_> {
         };
         self.bench.call(Call::DecoderEnded { stream })?;
         self.streams.ended(stream);
-        self.history.ended(stream);
         Ok(())
     }
 
@@ -237,10 +234,9 @@ impl Link<'_, '_> {
     fn collect(&mut self) -> Ran<()> {
         let room = if self.random.percent(10) { self.random.below(3) as usize } else { ROOM };
         let outcome = self.bench.call(Call::DecoderCollect { room })?;
-        match self.history.collected(&outcome, room) {
-            Ok(output) if output.is_empty() => (),
-            Ok(output) => self.acknowledgements.write(&output),
-            Err(what) => return self.bench.broken(what),
+        if !outcome.output.is_empty() {
+            self.acknowledgements.write(&outcome.output);
+            self.history.freed(&outcome.output).or_else(|what| self.bench.broken(what))?;
         }
         Ok(())
     }

@@ -72,8 +72,14 @@ fn stream_list(random: &mut Random) -> StreamList {
 }
 
 fn some_decoder(random: &mut Random) -> Decoder {
-    let highest = *random.pick(&[70, 189, 300, LARGEST]);
-    let mut indexes: BTreeSet<u64> = (0..*random.pick(&[0, 1, 5, 40, 128])).map(|_| random.between(62, highest)).collect();
+    // The highest index, one for all or one for each, so that acknowledgements have from one to five bytes.
+    let highest = [70, 189, 300, LARGEST];
+    let highest = if random.percent(30) { highest.to_vec() } else { vec![*random.pick(&highest)] };
+    let any_index = |random: &mut Random| {
+        let highest = *random.pick(&highest);
+        random.between(62, highest)
+    };
+    let mut indexes: BTreeSet<u64> = (0..*random.pick(&[0, 1, 5, 40, 128])).map(|_| any_index(random)).collect();
     if random.percent(20) {
         indexes = (62..190).collect();
     }

@@ -1,4 +1,4 @@
--- `collect` meets its contract: no state, none ready, or the row found ready is freed.
+-- `collect` meets its contract: no state, none ready, or the entry of the first ready delete is freed.
 use denote.Ref.{now}
 use native.Mathlib.Omega.{arith}
 use mathlib.Core.Path.{_≡_, refl, sym, _∙_}
@@ -32,16 +32,16 @@ returns c =
     let e = sym (c .before .before .forms-decoder .ensures) ∙ not-true _ (c .before .if1 .taken) in
     leaves (no-state _ _ e) (c .refused .ensures) refl refl
 
-find-ready-requires : tie.Need-find-ready-requires
-find-ready-requires c κs = forms (c .before)
+first-ready-requires : tie.Need-first-ready-requires
+first-ready-requires c κs = forms (c .before)
 
-enum-known-place : tie.Need-enum-known-place
-enum-known-place c = search needs
+enum-known-k : tie.Need-enum-known-k
+enum-known-k c = search needs
 
 free-requires : tie.Need-free-requires
 free-requires c κs =
     let sought = c .before .before .before .before .before in
-    (forms (sought .before .before), sym (sought .find-ready .ensures) ∙ c .before .before .before .place .given .1)
+    (forms (sought .before .before), sym (sought .first-ready .ensures) ∙ c .before .before .before .k .given .1)
 
 enum-told : tie.Need-enum-told
 enum-told c = search needs
@@ -63,7 +63,7 @@ same-length-4 c = search needs
 
 returns-3 : tie.Need-returns-3
 returns-3 c =
-    let e = sym (c .before .before .before .find-ready .ensures) ∙ c .before .enum-told .given .1 in
+    let e = sym (c .before .before .before .first-ready .ensures) ∙ c .before .enum-told .given .1 in
     leaves (none-ready _ _ (stands (c .before .before .before .before .before)) e) (c .done .ensures) refl refl
 
 pub collect-spec : {M : Type 1} → statement M
@@ -74,8 +74,8 @@ collect-spec =
     refused-requires
     same-length
     returns
-    find-ready-requires
-    enum-known-place
+    first-ready-requires
+    enum-known-k
     free-requires
     enum-told
     done-requires
