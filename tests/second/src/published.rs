@@ -1,5 +1,5 @@
 //! Examples that others published, run through both programs: RFC 7541's that fit the base, document 01's ten, and of document 02
-//! interim answers, padded integers and the order in which entries are freed.
+//! interim answers, padded integers, the order in which entries are freed, and a collect whose order counts.
 use crate::library::calls::Library;
 use crate::library::compare::Bench;
 use crate::program::wire::{put_integer, refuse, Reader, LARGEST};

@@ -2,7 +2,7 @@
 //!
 //! A comment that begins with `#!` is a note for the mixed runs, which do more with memory than a host may: `#! memory END LENGTH SEED`
 //! gives an end so many bytes, filled from the seed (0: zeros); `#! damage END AT BYTES` overwrites some of them; `#! lend END LENGTH`
-//! lends only the first so many from then on.
+//! lends only the first so many from then on; `#! pair CALL and CALL` tries two calls of the decoder in either order on copies of its memory.
 use std::fmt::Write;
 
 use crate::program::call::{Call, End, Outcome};
@@ -20,6 +20,7 @@ pub enum Step {
     Memory { end: End, length: usize, seed: u64 },
     Damage { end: End, at: usize, bytes: Vec<u8> },
     Lend { end: End, length: usize },
+    Pair { one: Call, other: Call },
 }
 
 fn hex(bytes: &[u8]) -> String {
@@ -40,13 +41,18 @@ fn end_name(end: End) -> &'static str {
 
 /// The line of a step.
 pub fn line_of(step: &Step) -> String {
+    match step {
+        Step::Call(call) => call_line(call),
+        Step::Memory { end, length, seed } => format!("#! memory {} {length} {seed}", end_name(*end)),
+        Step::Damage { end, at, bytes } => format!("#! damage {} {at} {}", end_name(*end), hex(bytes)),
+        Step::Lend { end, length } => format!("#! lend {} {length}", end_name(*end)),
+        Step::Pair { one, other } => format!("#! pair {} and {}", call_line(one), call_line(other)),
+    }
+}
+
+/// The line of a call.
+pub fn call_line(call: &Call) -> String {
     use Call::*;
-    let call = match step {
-        Step::Call(call) => call,
-        Step::Memory { end, length, seed } => return format!("#! memory {} {length} {seed}", end_name(*end)),
-        Step::Damage { end, at, bytes } => return format!("#! damage {} {at} {}", end_name(*end), hex(bytes)),
-        Step::Lend { end, length } => return format!("#! lend {} {length}", end_name(*end)),
-    };
     let mut line = match call {
         DecoderStart { limit } => format!("decoder start {limit}"),
         DecoderRead { bytes } => format!("decoder read {}", hex(bytes)),
@@ -121,6 +127,12 @@ fn note_of(words: &[&str]) -> Option<Step> {
         ["memory", whose, length, seed] => Step::Memory { end: end(whose)?, length: size(length)?, seed: number(seed)? },
         ["damage", whose, at, what] => Step::Damage { end: end(whose)?, at: size(at)?, bytes: bytes(what)? },
         ["lend", whose, length] => Step::Lend { end: end(whose)?, length: size(length)? },
+        ["pair", ref calls @ ..] => {
+            let and = calls.iter().position(|&word| word == "and")?;
+            let pair = (call_of(&calls[..and])?, call_of(&calls[and + 1..])?);
+            let (one, other) = Some(pair).filter(|(one, other)| one.end() == End::Decoder && other.end() == End::Decoder)?;
+            Step::Pair { one, other }
+        }
         _ => return None,
     })
 }

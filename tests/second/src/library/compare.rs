@@ -2,6 +2,7 @@
 use super::calls::{inputs_of, Library};
 use super::deletions::Deletions;
 use super::layout::{self, DECODER_BYTES, ENCODER_BYTES};
+use super::order;
 use super::room;
 use super::tally::Tally;
 use crate::program::blocks::BLOCK_MOST;
@@ -95,7 +96,7 @@ impl<'a> Bench<'a> {
             return;
         }
         match &step {
-            Step::Call(_) => unreachable!("a call is made, not noted"),
+            Step::Call(_) | Step::Pair { .. } => unreachable!("calls are made, not noted"),
             Step::Memory { end, length, seed } => {
                 let expected = if *seed == 0 { vec![0; *length] } else { Random::new(*seed).bytes(*length) };
                 self.sides[*end as usize] = Side { expected, lend: *length };
@@ -136,10 +137,24 @@ impl<'a> Bench<'a> {
         Ok(outcome)
     }
 
+    /// Tries two calls of the decoder in either order on copies of its memory, which itself stays as it is. Without a library there is none.
+    pub fn pair(&mut self, one: Call, other: Call) -> Ran<()> {
+        let Some(library) = &mut self.library else { return Ok(()) };
+        let side = &self.sides[End::Decoder as usize];
+        let tried = order::check(library.twin(), &side.expected, side.lend, &one, &other);
+        self.steps.push(Step::Pair { one, other });
+        match tried {
+            Ok(tried) => self.tally.tried(tried),
+            Err(what) => return self.broken(what),
+        }
+        Ok(())
+    }
+
     /// Any step.
     pub fn step(&mut self, step: Step) -> Ran<()> {
         match step {
             Step::Call(call) => self.call(call).map(|_| ()),
+            Step::Pair { one, other } => self.pair(one, other),
             note => {
                 self.note(note);
                 Ok(())

@@ -8,7 +8,7 @@ use crate::program::instructions::{self, Instruction, StreamList, STREAMS};
 use crate::program::tables::Parts;
 
 /// An entry that is ready is acknowledged within so many collects answered done, whatever its place.
-pub const COLLECTS_MOST: usize = 128;
+const COLLECTS_MOST: usize = 128;
 /// The answer where memory forms no state.
 const NO_STATE: u8 = 17;
 
@@ -159,5 +159,59 @@ impl Deletions {
             }
         }
         Ok(())
+    }
+}
+
+/// What the collects of a run came upon.
+#[derive(Clone, Debug, Default)]
+pub struct Freeing {
+    /// Entries freed, and those of them beside which one of lower index was ready.
+    freed: u64,
+    not_lowest: u64,
+    /// Collects answered 12 where there was room for another ready entry's acknowledgement.
+    passed_over: u64,
+    /// The most collects answered done within which an entry was acknowledged from when it was ready.
+    longest: usize,
+}
+
+/// At least one in so many calls must free an entry beside a ready one of lower index, and one be answered 12 where another would have room.
+const NOT_LOWEST_IN: u64 = 200;
+const PASSED_OVER_IN: u64 = 20_000;
+
+impl Freeing {
+    pub fn count(&mut self, collected: Collected) {
+        match collected {
+            Collected::Nothing => (),
+            Collected::Freed { collects, lower } => {
+                self.freed += 1;
+                self.not_lowest += u64::from(lower);
+                self.longest = self.longest.max(collects);
+            }
+            Collected::NoRoom { behind } => self.passed_over += u64::from(behind),
+        }
+    }
+
+    pub fn add(&mut self, other: &Freeing) {
+        self.freed += other.freed;
+        self.not_lowest += other.not_lowest;
+        self.passed_over += other.passed_over;
+        self.longest = self.longest.max(other.longest);
+    }
+
+    pub fn line(&self) -> String {
+        let Freeing { freed, not_lowest, passed_over, longest } = self;
+        format!(
+            "entries freed: {freed}, of them beside a ready one of lower index: {not_lowest}, after at most {longest} collects; \
+             answered 12 where another acknowledgement had room: {passed_over}"
+        )
+    }
+
+    pub fn missed(&self, calls: u64) -> Vec<String> {
+        let few = [
+            (self.not_lowest * NOT_LOWEST_IN < calls, "entries freed beside a ready one of lower index"),
+            (self.passed_over * PASSED_OVER_IN < calls, "collects answered 12 where another acknowledgement had room"),
+            (self.longest < COLLECTS_MOST, "collects between a ready entry and its acknowledgement"),
+        ];
+        few.iter().filter(|(few, _)| *few).map(|(_, what)| format!("too few {what}")).collect()
     }
 }

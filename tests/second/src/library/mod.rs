@@ -5,5 +5,6 @@ mod deletions;
 mod kept;
 pub mod layout;
 mod lent;
+mod order;
 mod room;
 pub mod tally;

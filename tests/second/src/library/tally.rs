@@ -1,8 +1,9 @@
-//! How often each call got each answer, how full the tables were, which blocks messages had, how near blocks came to their bound, and in
-//! which order entries were freed: a run that reaches little would prove little.
+//! How often each call got each answer, how full the tables were, which blocks messages had, how near blocks came to their bound, in which
+//! order entries were freed, and which pairs of calls were tried: a run that reaches little would prove little.
 use std::collections::BTreeSet;
 
-use super::deletions::{Collected, COLLECTS_MOST};
+use super::deletions::{Collected, Freeing};
+use super::order::{Tried, Tries};
 use super::room::Reached;
 use crate::program::call::{Call, Outcome, Second};
 use crate::program::instructions::STREAMS;
@@ -40,60 +41,7 @@ pub struct Tally {
     bound: [u64; 3],
     messages: [Messages; 2],
     freeing: Freeing,
-}
-
-/// What collects came upon.
-#[derive(Clone, Debug, Default)]
-struct Freeing {
-    /// Entries freed, and those of them beside which one of lower index was ready.
-    freed: u64,
-    not_lowest: u64,
-    /// Collects answered 12 where there was room for another ready entry's acknowledgement.
-    passed_over: u64,
-    /// The most collects answered done within which an entry was acknowledged from when it was ready.
-    longest: usize,
-}
-
-/// At least one in so many calls must free an entry beside a ready one of lower index, and one be answered 12 where another would have room.
-const NOT_LOWEST_IN: u64 = 200;
-const PASSED_OVER_IN: u64 = 20_000;
-
-impl Freeing {
-    fn count(&mut self, collected: Collected) {
-        match collected {
-            Collected::Nothing => (),
-            Collected::Freed { collects, lower } => {
-                self.freed += 1;
-                self.not_lowest += u64::from(lower);
-                self.longest = self.longest.max(collects);
-            }
-            Collected::NoRoom { behind } => self.passed_over += u64::from(behind),
-        }
-    }
-
-    fn add(&mut self, other: &Freeing) {
-        self.freed += other.freed;
-        self.not_lowest += other.not_lowest;
-        self.passed_over += other.passed_over;
-        self.longest = self.longest.max(other.longest);
-    }
-
-    fn line(&self) -> String {
-        let Freeing { freed, not_lowest, passed_over, longest } = self;
-        format!(
-            "entries freed: {freed}, of them beside a ready one of lower index: {not_lowest}, after at most {longest} collects; \
-             answered 12 where another acknowledgement had room: {passed_over}"
-        )
-    }
-
-    fn missed(&self, calls: u64) -> Vec<String> {
-        let few = [
-            (self.not_lowest * NOT_LOWEST_IN < calls, "entries freed beside a ready one of lower index"),
-            (self.passed_over * PASSED_OVER_IN < calls, "collects answered 12 where another acknowledgement had room"),
-            (self.longest < COLLECTS_MOST, "collects between a ready entry and its acknowledgement"),
-        ];
-        few.iter().filter(|(few, _)| *few).map(|(_, what)| format!("too few {what}")).collect()
-    }
+    tries: Tries,
 }
 
 /// The blocks of messages at an end.
@@ -179,6 +127,10 @@ impl Tally {
         self.freeing.count(collected);
     }
 
+    pub fn tried(&mut self, tried: Tried) {
+        self.tries.count(tried);
+    }
+
     /// A block was written, or would have been with more room.
     pub fn reached(&mut self, reached: Reached) {
         let [bound, closed, most] = &mut self.bound;
@@ -196,6 +148,7 @@ impl Tally {
         self.bound.iter_mut().zip(other.bound).for_each(|(count, more)| *count += more);
         self.messages.iter_mut().zip(&other.messages).for_each(|(messages, more)| messages.add(more));
         self.freeing.add(&other.freeing);
+        self.tries.add(&other.tries);
     }
 
     pub fn calls(&self) -> u64 {
@@ -214,6 +167,7 @@ impl Tally {
         lines.push(format!("inserts refused with 7 beside 128 entries: {} at the decoder, {} at the encoder", self.full[0], self.full[1]));
         lines.extend(["decoder", "encoder"].into_iter().zip(&self.messages).map(|(end, messages)| messages.line(end)));
         lines.push(self.freeing.line());
+        lines.extend(self.tries.lines());
         let [bound, closed, most] = self.bound;
         lines
             .push(format!("blocks at their bound: {bound}, of them 259 bytes for 257 of list: {closed}; at 16,384 bytes below it: {most}"));
@@ -221,7 +175,7 @@ impl Tally {
     }
 
     /// Answers that a call never gave although it can, or gave although it cannot, tables that never filled, messages that never came, a
-    /// bound never reached, and entries that were freed in too plain an order.
+    /// bound never reached, entries that were freed in too plain an order, and pairs that were too rare.
     pub fn missed(&self) -> Vec<String> {
         let mut missed = Vec::new();
         for ((name, answers), row) in REACHABLE.iter().zip(&self.counts) {
@@ -240,6 +194,7 @@ impl Tally {
             missed.push("no block was as long as its bound, or none of 259 bytes for a list of 257".to_string());
         }
         missed.extend(self.freeing.missed(self.calls()));
+        missed.extend(self.tries.missed(self.calls()));
         missed
     }
 }

@@ -1,5 +1,6 @@
 //! Memory that somebody else wrote: each damage leaves a state or none, by docs/STATE.md as `layout` reads it, and the calls that
 //! follow are held to that.
+use super::pairs::Pairs;
 use super::words::{Style, Words};
 use super::{hostile, made_up};
 use crate::library::compare::{Bench, Ran};
@@ -10,6 +11,7 @@ use crate::random::Random;
 use crate::recording::Step;
 
 pub fn run(style: Style, mut random: Random, calls: usize, bench: &mut Bench) -> Ran<()> {
+    let mut pairs = Pairs::new(&random, style);
     let words = Words::new(&mut random, style);
     hostile::memories(&mut random, bench);
     while bench.calls < calls {
@@ -21,14 +23,14 @@ pub fn run(style: Style, mut random: Random, calls: usize, bench: &mut Bench) ->
         } else {
             hostile::start(&mut random, bench)?;
         }
-        some_calls(&mut random, bench, &words, 40)?;
+        some_calls(&mut random, bench, &words, &mut pairs, 40)?;
         for _ in 0..random.between(1, 12) {
             let end = *random.pick(&[End::Decoder, End::Encoder]);
             let (at, bytes) = damage(&mut random, bench.memory(end), end);
             let before = bench.memory(end)[at..at + bytes.len()].to_vec();
             bench.note(Step::Damage { end, at, bytes });
             let known = state_of(bench, end);
-            some_calls(&mut random, bench, &words, 5)?;
+            some_calls(&mut random, bench, &words, &mut pairs, 5)?;
             // Bytes that no call wrote may be put back; else the damage stays.
             if !known {
                 bench.note(Step::Damage { end, at, bytes: before });
@@ -45,12 +47,13 @@ fn state_of(bench: &Bench, end: End) -> bool {
     }
 }
 
-fn some_calls(random: &mut Random, bench: &mut Bench, words: &Words, most: u64) -> Ran<()> {
+fn some_calls(random: &mut Random, bench: &mut Bench, words: &Words, pairs: &mut Pairs, most: u64) -> Ran<()> {
     for _ in 0..random.between(1, most) {
         let call = hostile::call(random, bench, words, 70);
         if !matches!(call, Call::DecoderStart { .. } | Call::EncoderStart { .. }) {
             let call = hostile::roomed(random, bench, call);
             bench.call(call)?;
+            pairs.now_and_then(bench)?;
         }
     }
     Ok(())

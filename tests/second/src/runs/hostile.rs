@@ -1,4 +1,5 @@
 //! Both ends alone: calls with any bytes and arguments, near enough to right ones that tables fill and deletions end.
+use super::pairs::Pairs;
 use super::words::{Style, Words};
 use super::{limit, wild};
 use crate::library::compare::{Bench, Ran};
@@ -10,6 +11,7 @@ use crate::random::Random;
 use crate::recording::{Step, BYTES_MOST, ROOM};
 
 pub fn run(style: Style, mut random: Random, calls: usize, bench: &mut Bench) -> Ran<()> {
+    let mut pairs = Pairs::new(&random, style);
     let words = Words::new(&mut random, style);
     memories(&mut random, bench);
     let streams = *random.pick(&[4, 12, 70, 4200]);
@@ -17,6 +19,7 @@ pub fn run(style: Style, mut random: Random, calls: usize, bench: &mut Bench) ->
         // Before a start there is no state.
         let call = call(&mut random, bench, &words, streams);
         bench.call(call)?;
+        pairs.now_and_then(bench)?;
     }
     start(&mut random, bench)?;
     while bench.calls < calls {
@@ -29,6 +32,7 @@ pub fn run(style: Style, mut random: Random, calls: usize, bench: &mut Bench) ->
         let call = call(&mut random, bench, &words, streams);
         let call = roomed(&mut random, bench, call);
         bench.call(call)?;
+        pairs.now_and_then(bench)?;
     }
     Ok(())
 }
@@ -117,7 +121,8 @@ fn argument(random: &mut Random, held: &[u64]) -> u64 {
 
 /// Any call, now and then the last one again: a block that comes twice, or an "over" that does.
 pub fn call(random: &mut Random, bench: &Bench, words: &Words, streams: u64) -> Call {
-    if let (Some(Step::Call(call)), true) = (bench.steps.last(), random.percent(3)) {
+    let last = bench.steps.iter().rev().find(|step| !matches!(step, Step::Pair { .. }));
+    if let (Some(Step::Call(call)), true) = (last, random.percent(3)) {
         return call.clone();
     }
     let [at_decoder, at_encoder] = wild::held(&bench.second);

@@ -4,6 +4,7 @@ use super::channel::Channel;
 use super::claims::{self, Block};
 use super::history::History;
 use super::noise;
+use super::pairs::Pairs;
 use super::streams::Streams;
 use super::words::{Style, Words};
 use super::{limit, Kind};
@@ -23,6 +24,7 @@ struct Link<'b, 'a> {
     management: Channel,
     acknowledgements: Channel,
     history: History,
+    pairs: Pairs,
 }
 
 #[derive(Clone, Copy)]
@@ -58,6 +60,7 @@ const WEIGHTS: [(Act, [u64; 2]); 12] = [
 ];
 
 pub fn run(kind: Kind, style: Style, mut random: Random, calls: usize, bench: &mut Bench) -> Ran<()> {
+    let pairs = Pairs::new(&random, style);
     let words = Words::new(&mut random, style);
     let at_decoder = if style == Style::Tiny && random.percent(70) { 4096 } else { limit(&mut random) };
     let at_encoder = if random.percent(80) { at_decoder } else { random.below(at_decoder + 1) };
@@ -66,11 +69,12 @@ pub fn run(kind: Kind, style: Style, mut random: Random, calls: usize, bench: &m
     let streams = Streams::new(&mut random);
     let (management, acknowledgements) = (Channel::default(), Channel::default());
     let history = History::default();
-    let mut link = Link { bench, random, kind, words, streams, blocks: Vec::new(), management, acknowledgements, history };
+    let mut link = Link { bench, random, kind, words, streams, blocks: Vec::new(), management, acknowledgements, history, pairs };
     while link.bench.calls < calls {
         let quiet = usize::from(link.random.percent(45));
         for _ in 0..link.random.between(10, 120) {
             link.act(quiet)?;
+            link.pairs.now_and_then(link.bench)?;
         }
     }
     claims::ask_all(link.bench)?;

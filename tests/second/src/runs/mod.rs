@@ -8,6 +8,7 @@ mod link;
 mod made_up;
 mod noise;
 mod packed;
+mod pairs;
 mod streams;
 mod wild;
 mod words;
