@@ -62,7 +62,8 @@ def deletes(run):
     listed = {**base, "listed": 16}
     rows = [("decoder, the test alone", "decoder-test", base), ("decoder, block of 8 literals", "decoder-literal", base),
             ("decoder, ended", "decoder-ended", base), ("decoder, collect, none ready", "decoder-collect", base),
-            ("decoder, collect, all ready", "decoder-collect", {**base, "ready": 1}), ("decoder, hold enquiry", "decoder-hold", base), ("decoder, the test alone, 16 + 16 listed", "decoder-test", listed),
+            ("decoder, collect, all ready", "decoder-collect", {**base, "ready": 1}),
+            ("decoder, hold enquiry", "decoder-hold", base), ("decoder, the test alone, 16 + 16 listed", "decoder-test", listed),
             ("decoder, collect, 16 + 16 listed", "decoder-collect", listed),
             ("encoder, the test alone", "encoder-test", base), ("encoder, block of 8 literals", "encoder-literal", base)]
 

@@ -5,7 +5,7 @@ use Prim.Native.Nat.{ℕ, zero, suc, _+_, _-_, _≤_, _<_}
 use native.Mathlib.Omega.{arith}
 use mathlib.Core.Bool.{Bool, true, false}
 use mathlib.Core.Option.{Option, none, some, Option·map}
-use mathlib.Core.List.{List, [], _∷_}
+use mathlib.Core.List.{List}
 use Rattle.memory.proofs.Order.{pick-both, pick-true, pick-false}
 use Rattle.instructions.specs.Instruction.{FineIndex}
 use Rattle.model.specs.Table.{look, first}
@@ -68,11 +68,11 @@ deleteIn m (At k) = some (deleteAt m k)
 deleteIn m Nothing = none
 
 first-next : (m : List ℕ) (test : Delete → Bool) (n k : ℕ) → Each (λ d. test d ≡ isReady (marksOf m) d) (deletesOf m k n)
-    → first deleteIndex test (deletesOf m k n) ≡ deleteIn m (nextFrom m n k)
+    → first test (deletesOf m k n) ≡ deleteIn m (nextFrom m n k)
 unfolding first deletesOf nextFrom readyAt
 first-next m test zero k f = refl
 first-next m test (suc n) k f =
-    pick-both (λ (r : Next). first deleteIndex test (deletesOf m k (suc n)) ≡ deleteIn m r) (readyAt m k) (At k) (nextFrom m n (k + 1))
+    pick-both (λ (r : Next). first test (deletesOf m k (suc n)) ≡ deleteIn m r) (readyAt m k) (At k) (nextFrom m n (k + 1))
     (λ t. pick-true (test (deleteAt m k)) _ _ (f .0 ∙ t)) (λ t. pick-false (test (deleteAt m k)) _ _ (f .0 ∙ t) ∙ first-next m test n (k + 1) (f .1))
 
 module _ (m : List ℕ) (S : DecoderStands m (decoderOf m)) where

@@ -45,7 +45,7 @@ module _ (l : List Sent) (name : List ℕ) where
 
   -- the static entry, else what the header table has
   pub name-first : (o : StaticFound) → findName name ≡ o → (dynamic : NameChoice)
-      → chosenName name dynamic ≡ dynamicName name (first sentIndex (serves name) l) → chosenName name (staticFirst o dynamic) ≡ chooseName l name
+      → chosenName name dynamic ≡ dynamicName name (first (serves name) l) → chosenName name (staticFirst o dynamic) ≡ chooseName l name
   unfolding chooseName staticName
   name-first (At j) e dynamic d = name-static j e
   name-first NotStatic e dynamic d = d ∙ sym (ap (staticName l name) e)
@@ -75,7 +75,7 @@ module _ (l : List Sent) (f : Field) where
     unfolding staticField
     choose-static j e = sym (static-field (At j) e)
 
-    dynamic-field : findBoth (f .name) (f .value) ≡ NotStatic → (o : Option Sent) → first sentIndex (servesBoth (f .name) (f .value)) l ≡ o
+    dynamic-field : findBoth (f .name) (f .value) ≡ NotStatic → (o : Option Sent) → first (servesBoth (f .name) (f .value)) l ≡ o
         → choose l f ≡ dynamicField l f o
     unfolding staticField
     dynamic-field gone o e = static-field NotStatic gone ∙ ap (dynamicField l f) e
@@ -112,12 +112,12 @@ module _ (m : List ℕ) (small : Small m) (forms : formsEncoder m ≡ true) wher
     serving-row place e = C .serving name place e .0
 
     pub dynamic-row : (place : ℕ) → lowestRow (servesAt m name) (countOf m) 0 ≡ Row place → (i : TableIndex) → i ≡ record { value = indexAt m place }
-        → by-index (i .value) ≡ dynamicName name (first sentIndex (serves name) (encoderOf m .entries))
+        → by-index (i .value) ≡ dynamicName name (first (serves name) (encoderOf m .entries))
     unfolding dynamicName sentOfRow
     dynamic-row place e i d = ap (λ (i : TableIndex). by-index (i .value)) d ∙ sym (ap (dynamicName name) (C .serving name place e .1))
 
     pub dynamic-none : lowestRow (servesAt m name) (countOf m) 0 ≡ Nothing
-        → by-bytes name ≡ dynamicName name (first sentIndex (serves name) (encoderOf m .entries))
+        → by-bytes name ≡ dynamicName name (first (serves name) (encoderOf m .entries))
     unfolding dynamicName
     dynamic-none e = sym (ap (dynamicName name) (C .unserved name e))
 
@@ -134,7 +134,7 @@ module _ (m : List ℕ) (small : Small m) (forms : formsEncoder m ≡ true) wher
 
     -- no row has both: a literal, its name by the static table, else by what the header table has
     pub choose-else : lowestRow (servesBothAt m (f .name) (f .value)) (countOf m) 0 ≡ Nothing → f .flag < 2 → (dynamic : NameChoice)
-        → chosenName (f .name) dynamic ≡ dynamicName (f .name) (first sentIndex (serves (f .name)) (encoderOf m .entries))
+        → chosenName (f .name) dynamic ≡ dynamicName (f .name) (first (serves (f .name)) (encoderOf m .entries))
         → (choice : Choice) → choice ≡ literalWith (staticFirst (findName (f .name)) dynamic) → Chooses m f choice
     unfolding dynamicField
     choose-else e low dynamic d choice t =

@@ -36,7 +36,7 @@ module _ (E : Encoder) (F : FormsEncoder E) where
   static-known : (i : ℕ) → 0 < i → i < 62 → Known i
   static-known i low high = record { low = low; high = omega arith; held = λ h. absurd (omega arith) }
 
-  entry-known : (test : Sent → _) (e : Sent) → first sentIndex test l ≡ some e → Known (e .index)
+  entry-known : (test : Sent → _) (e : Sent) → first test l ≡ some e → Known (e .index)
   entry-known test e h =
       let there = first-sound sentIndex test 62 l e (F .order) h .0 in
       let fine = F .entries (e .index) e there in
@@ -52,13 +52,13 @@ module _ (E : Encoder) (F : FormsEncoder E) where
   unfolding chooseName staticName dynamicName
   name-known name short = go (findName name) refl
     where
-      dynamic : (o : Option Sent) → first sentIndex (serves name) l ≡ o → NameKnown (dynamicName name o)
+      dynamic : (o : Option Sent) → first (serves name) l ≡ o → NameKnown (dynamicName name o)
       dynamic none h = short
       dynamic (some e) h = entry-known (serves name) e h
 
       go : (o : StaticFound) → findName name ≡ o → NameKnown (staticName l name o)
       go (At j) h = let w = name-found name 61 1 j h in static-known (j .value) (omega (arith, w .low)) (omega (arith, w .high))
-      go Nothing h = dynamic (first sentIndex (serves name) l) refl
+      go Nothing h = dynamic (first (serves name) l) refl
 
   pub index-known : (name : List ℕ) → length name ≤ 255 → (i : ℕ) → by-index i ≡ chooseName l name → (0 < i) × (i ≤ 189)
   index-known name short i e = let known = subst NameKnown (sym e) (name-known name short) in (known .low, known .high)
@@ -79,13 +79,13 @@ module _ (E : Encoder) (F : FormsEncoder E) where
       as-literal : (flag : ℕ) → flag < 2 → AllKnown (literal flag (chooseName l (f .name)) (f .value))
       as-literal flag h = (h, name-known (f .name) (fine .name-short), fine .value-short)
 
-      dynamic : (o : Option Sent) → first sentIndex (servesBoth (f .name) (f .value)) l ≡ o → AllKnown (dynamicField l f o)
+      dynamic : (o : Option Sent) → first (servesBoth (f .name) (f .value)) l ≡ o → AllKnown (dynamicField l f o)
       dynamic none h = as-literal 0 (lit≤ tt)
       dynamic (some e) h = entry-known (servesBoth (f .name) (f .value)) e h
 
       go : (o : StaticFound) → findBoth (f .name) (f .value) ≡ o → AllKnown (staticField l f o)
       go (At j) h = let w = both-found (f .name) (f .value) 61 1 j h in static-known (j .value) (omega (arith, w .low)) (omega (arith, w .high))
-      go Nothing h = dynamic (first sentIndex (servesBoth (f .name) (f .value)) l) refl
+      go Nothing h = dynamic (first (servesBoth (f .name) (f .value)) l) refl
 
   known-fine : (r : Representation) → AllKnown r → FineRepresentation r
   known-fine (indexed i) k = (k .low, omega (arith, k .high))

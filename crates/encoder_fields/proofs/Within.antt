@@ -42,11 +42,11 @@ pub forms-low : (E : Encoder) → FormsEncoder E → LowTable (E .entries)
 forms-low E F = found-each Low sentIndex 62 (E .entries) (F .order) (λ i e q. omega (arith, F .entries i e q .high))
 
 -- and so is one that is found
-found-low : (test : Sent → Bool) (l : List Sent) → LowTable l → (e : Sent) → first sentIndex test l ≡ some e → Low e
+found-low : (test : Sent → Bool) (l : List Sent) → LowTable l → (e : Sent) → first test l ≡ some e → Low e
 unfolding first
 found-low test [] low e = λ q. nope (cc)
 found-low test (x ∷ l) low e =
-    pick-both (λ (o : Option Sent). o ≡ some e → Low e) (test x) (some x) (first sentIndex test l)
+    pick-both (λ (o : Option Sent). o ≡ some e → Low e) (test x) (some x) (first test l)
     (λ t q. let same : x ≡ e = cc in subst Low same (low .0))
     (λ t q. found-low test l (low .1) e q)
 
@@ -119,13 +119,13 @@ module _ (f : Field) (fine : FineField f) where
     unfolding chooseName staticName dynamicName
     literal-within flag = go (findName (f .name)) refl
       where
-        dynamic : (o : Option Sent) → first sentIndex (serves (f .name)) l ≡ o → Within (literal flag (dynamicName (f .name) o) (f .value))
+        dynamic : (o : Option Sent) → first (serves (f .name)) l ≡ o → Within (literal flag (dynamicName (f .name) o) (f .value))
         dynamic none q = text-within flag
         dynamic (some e) q = named-within flag (e .index) (found-low (serves (f .name)) l low e q)
 
         go : (o : StaticFound) → findName (f .name) ≡ o → Within (literal flag (staticName l (f .name) o) (f .value))
         go (At j) q = named-within flag (j .value) (omega (arith, name-found (f .name) 61 1 j q .high))
-        go Nothing q = dynamic (first sentIndex (serves (f .name)) l) refl
+        go Nothing q = dynamic (first (serves (f .name)) l) refl
 
     pub choice-within : Within (choose l f)
     unfolding choose staticField dynamicField
@@ -134,10 +134,10 @@ module _ (f : Field) (fine : FineField f) where
         (λ t. literal-within 1)
         (λ t. go (findBoth (f .name) (f .value)) refl)
       where
-        dynamic : (o : Option Sent) → first sentIndex (servesBoth (f .name) (f .value)) l ≡ o → Within (dynamicField l f o)
+        dynamic : (o : Option Sent) → first (servesBoth (f .name) (f .value)) l ≡ o → Within (dynamicField l f o)
         dynamic none q = literal-within 0
         dynamic (some e) q = indexed-within (e .index) (found-low (servesBoth (f .name) (f .value)) l low e q)
 
         go : (o : StaticFound) → findBoth (f .name) (f .value) ≡ o → Within (staticField l f o)
         go (At j) q = indexed-within (j .value) (omega (arith, both-found (f .name) (f .value) 61 1 j q .high))
-        go Nothing q = dynamic (first sentIndex (servesBoth (f .name) (f .value)) l) refl
+        go Nothing q = dynamic (first (servesBoth (f .name) (f .value)) l) refl

@@ -43,13 +43,13 @@ module _ (g : Sent → Sent) (index : (e : Sent) → g e .index ≡ e .index) (e
   both-same name value e = ap₂ _&&_ (serves-same name e) (ap (λ (x : Entry). same (x .value) value) (entry e))
 
   first-same : (test : Sent → Bool) → ((e : Sent) → test (g e) ≡ test e) → (l : List Sent)
-      → first sentIndex test (map g l) ≡ Option·map g (first sentIndex test l)
+      → first test (map g l) ≡ Option·map g (first test l)
   unfolding first
   first-same test same [] = refl
   first-same test same (e ∷ l) =
       rw (same e)
-      (pick-both (λ (o : Option Sent). pick (test e) (some (g e)) (first sentIndex test (map g l)) ≡ Option·map g o) (test e) (some e)
-      (first sentIndex test l)
+      (pick-both (λ (o : Option Sent). pick (test e) (some (g e)) (first test (map g l)) ≡ Option·map g o) (test e) (some e)
+      (first test l)
       (λ t. pick-true (test e) _ _ t) (λ t. pick-false (test e) _ _ t ∙ first-same test same l))
 
   module _ (l : List Sent) where
@@ -63,7 +63,7 @@ module _ (g : Sent → Sent) (index : (e : Sent) → g e .index ≡ e .index) (e
 
         go : (o : StaticFound) → staticName (map g l) name o ≡ staticName l name o
         go (At j) = refl
-        go Nothing = ap (dynamicName name) (first-same (serves name) (serves-same name) l) ∙ dynamic (first sentIndex (serves name) l)
+        go Nothing = ap (dynamicName name) (first-same (serves name) (serves-same name) l) ∙ dynamic (first (serves name) l)
 
     choose-same : (f : Field) → choose (map g l) f ≡ choose l f
     unfolding choose staticField dynamicField
@@ -81,7 +81,7 @@ module _ (g : Sent → Sent) (index : (e : Sent) → g e .index ≡ e .index) (e
         go (At j) = refl
         go Nothing =
             ap (dynamicField (map g l) f) (first-same (servesBoth (f .name) (f .value)) (both-same (f .name) (f .value)) l)
-            ∙ dynamic (first sentIndex (servesBoth (f .name) (f .value)) l)
+            ∙ dynamic (first (servesBoth (f .name) (f .value)) l)
 
 referred-deleted : (s : ℕ) (p : Part) (e : Sent) → referred s p e .deleted ≡ e .deleted
 unfolding referred

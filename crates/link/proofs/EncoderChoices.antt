@@ -99,7 +99,7 @@ module _ (hs : List Happened) (l : List Sent) (order : Ascending sentIndex 62 l)
 
   module _ (P : Entry → Type 0) (test : Sent → Bool) (back : (e : Sent) → test e ≡ true → (e .deleted ≡ false) × P (e .entry))
       (forth : (e : Sent) → e .deleted ≡ false → P (e .entry) → test e ≡ true) where
-    served : (e : Sent) → first sentIndex test l ≡ some e → Lowest (Serving hs P) (e .index)
+    served : (e : Sent) → first test l ≡ some e → Lowest (Serving hs P) (e .index)
     served e q =
         let s = first-sound sentIndex test 62 l e order q in
         record {
@@ -108,12 +108,12 @@ module _ (hs : List Happened) (l : List Sent) (order : Ascending sentIndex 62 l)
               let b = serving-back P k v in first-lowest sentIndex test 62 l e k (b .0) order q (b .1) (forth (b .0) (b .2) (b .3));
         }
 
-    unserved : first sentIndex test l ≡ none → (i : ℕ) → Serving hs P i → ⊥
+    unserved : first test l ≡ none → (i : ℕ) → Serving hs P i → ⊥
     unserved q i v = let b = serving-back P i v in first-none sentIndex test l i (b .0) q (b .1) (forth (b .0) (b .2) (b .3))
 
   -- ---- the name
   module _ (name : List ℕ) where
-    dynamic-named : (o : Option Sent) → first sentIndex (serves name) l ≡ o
+    dynamic-named : (o : Option Sent) → first (serves name) l ≡ o
         → ByLowest (Serving hs (Named name)) indexed (λ n. n ≡ literal name) (dynamicName name o)
     unfolding dynamicName
     dynamic-named none q = inr (unserved (Named name) (serves name) (serves-back name) (serves-forth name) q, refl)
@@ -125,7 +125,7 @@ module _ (hs : List Happened) (l : List Sent) (order : Ascending sentIndex 62 l)
         let f = name-found name 61 1 j q in
         inl (j .value, static-lowest (Named name) (finding.HasName name) (λ k s. s .2) (j .value) f (f .low, omega (arith, f .high), f .holds), refl)
     static-named Nothing q =
-        inr (λ i s. name-nothing name 61 1 q i (s .0) (omega (arith, s .1)) (s .2), dynamic-named (first sentIndex (serves name) l) refl)
+        inr (λ i s. name-nothing name 61 1 q i (s .0) (omega (arith, s .1)) (s .2), dynamic-named (first (serves name) l) refl)
 
     pub named-by : NamedBy hs name (chooseName l name)
     unfolding chooseName
@@ -143,7 +143,7 @@ module _ (hs : List Happened) (l : List Sent) (order : Ascending sentIndex 62 l)
     literal-for flag e =
         (chooseName l (f .name), named-by (f .name), ap (λ (k : ℕ). representation.literal k (chooseName l (f .name)) (f .value)) e)
 
-    dynamic-written : f .flag ≡ 0 → (o : Option Sent) → first sentIndex both l ≡ o
+    dynamic-written : f .flag ≡ 0 → (o : Option Sent) → first both l ≡ o
         → ByLowest (Serving hs Same) representation.indexed (LiteralFor hs f) (dynamicField l f o)
     unfolding dynamicField
     dynamic-written z none q =
@@ -161,7 +161,7 @@ module _ (hs : List Happened) (l : List Sent) (order : Ascending sentIndex 62 l)
     static-written z Nothing q =
         inr (
           λ i s. both-nothing (f .name) (f .value) 61 1 q i (s .0) (omega (arith, s .1)) (s .2),
-          dynamic-written z (first sentIndex both l) refl,
+          dynamic-written z (first both l) refl,
         )
 
     written-for : FineField f → WrittenFor hs f (choose l f)

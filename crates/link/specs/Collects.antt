@@ -29,14 +29,16 @@ unfoldable pub collected : List ℕ → List DecoderCall → List (List ℕ)
 collected m [] = []
 collected m (c ∷ cs) = collectedBy c (decoderResult m c) ++ collected (decoderResult m c .memory) cs
 
--- "at most 128 collects"
+-- "an entry which is ready is acknowledged within at most" so many "collects that are answered done, whatever other calls, a new start apart, come between"
+abbrev pub Within : ℕ → Type 0
+Within n = (m : List ℕ) → Small m → formsDecoder m ≡ true → (i : ℕ) → Ready m i → (cs : List DecoderCall) → AllDecoderBytes cs → n ≤ length (collected m cs)
+    → List·Memᴰ (instructionWire (acknowledge i)) (take n (collected m cs))
+
 abbrev pub enough : ℕ
 enough = 128
 
 pub record CollectsClaim : Type 0 where
-  -- "an entry which is ready is acknowledged within at most 128 collects that are answered done, whatever other calls, a new start apart, come between"
-  pub within : (m : List ℕ) → Small m → formsDecoder m ≡ true → (i : ℕ) → Ready m i → (cs : List DecoderCall) → AllDecoderBytes cs
-      → enough ≤ length (collected m cs) → List·Memᴰ (instructionWire (acknowledge i)) (take enough (collected m cs))
+  pub within : Within enough
   -- sooner by its place: with so many deletes before its own in order of arrival, within one collect more
   pub by-place : (m : List ℕ) → Small m → formsDecoder m ≡ true → (before behind : List Delete) (d : Delete)
       → decoderOf m .deletes ≡ before ++ (d ∷ behind) → Ready m (d .index) → (cs : List DecoderCall) → AllDecoderBytes cs

@@ -89,8 +89,8 @@ module _ (D : Decoder) (i : ℕ) (is : List ℕ) (e : D .deletes ≡ map delete-
   unfolding nextFreed first
   first-next =
       let test : Delete → Bool = λ d. ready D (d .index) in
-      ap (λ (l : List Delete). Option·map deleteIndex (first deleteIndex test l)) e
-      ∙ ap (λ (b : Bool). Option·map deleteIndex (pick b (some (delete-at i)) (first deleteIndex test (map delete-at is)))) first-ready
+      ap (λ (l : List Delete). Option·map deleteIndex (first test l)) e
+      ∙ ap (λ (b : Bool). Option·map deleteIndex (pick b (some (delete-at i)) (first test (map delete-at is)))) first-ready
 
   first-freed : decoderCall D (at-decoder.collect 5) ≡ finish (without D i) (length (acknowledgement i)) 0 (instruction (acknowledge i))
   unfolding decoderCall collectEntry freeEntry

@@ -1,21 +1,19 @@
 -- That the bound of "No deletion forgotten" is reached: 128 entries are inserted and deleted, all ready at once. They are acknowledged in the order in which
 -- their deletes were read, so the last of them by the 128th collect: "within at most 127" would be false.
 use mathlib.Core.Path.{_≡_}
-use Prim.Native.Nat.{ℕ, zero, suc, _≤_}
-use mathlib.Core.Bool.{true}
+use Prim.Native.Nat.{ℕ, zero, suc}
 use mathlib.Core.List.{List, [], _∷_, _++_, map, List·Memᴰ}
-use lib.ListN.{length, take, replicate}
+use lib.ListN.{length, replicate}
 use Rattle.memory.specs.Bytes.{Small}
 use Rattle.wire.specs.Name.{literal}
 use Rattle.instructions.specs.Instruction.{insert, delete, acknowledge, instructionWire}
 use Rattle.model.specs.Encoder.{emptyList}
-use Rattle.state.specs.Forms.{formsDecoder}
 use Rattle.decoder.specs.Calls.{startCall}
-use Rattle.link.specs.Calls.{DecoderCall, read, collect, AllDecoderBytes, decoderAfter}
+use Rattle.link.specs.Calls.{DecoderCall, read, collect, decoderAfter}
 use Rattle.link.specs.Happened.{Ready}
-use Rattle.link.specs.Collects.{collected}
+use Rattle.link.specs.Collects.{collected, Within}
 
--- 62 to 189: n indexes from i on
+-- n indexes from i on
 unfoldable pub indexes : ℕ → ℕ → List ℕ
 indexes zero i = []
 indexes (suc n) i = i ∷ indexes n (suc i)
@@ -42,6 +40,5 @@ pub record LastOf128 (m : List ℕ) : Type 0 where
 
 pub record LastClaim : Type 0 where
   pub last-of-128 : (m : List ℕ) → Small m → startCall m 4096 .answer .number ≡ 0 → LastOf128 (decoderAfter (startCall m 4096 .memory) (inserts ++ deletes))
-  -- CollectsClaim.within with 127 in place of 128 is false
-  pub not-127 : ((m : List ℕ) → Small m → formsDecoder m ≡ true → (i : ℕ) → Ready m i → (cs : List DecoderCall) → AllDecoderBytes cs
-      → 127 ≤ length (collected m cs) → List·Memᴰ (instructionWire (acknowledge i)) (take 127 (collected m cs))) → ⊥
+  -- so 127 would not do
+  pub not-127 : Within 127 → ⊥

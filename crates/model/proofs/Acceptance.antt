@@ -100,6 +100,11 @@ pub freed-by-arrival : freed 68 (insert-h9 62 ∷ insert-h9 63 ∷ delete-of 63 
 unfolding freed
 freed-by-arrival = refl
 
+-- one whose delete arrived first and that is not ready holds back nobody
+pub waiting-passed-over : freed 68 (insert-h9 62 ∷ insert-h9 63 ∷ delete-nontrailer 1 ∷ delete-of 63 ∷ collect 16 ∷ collect 16 ∷ over 0 ∷ collect 16 ∷ []) ≡ 63 ∷ 62 ∷ []
+unfolding freed
+waiting-passed-over = refl
+
 -- "a busy low slot can come back again and again and keep a high one waiting": no longer. The second delete of 62 is read behind that of 63.
 pub busy-slot-behind :
     freed 68 (insert-h9 62 ∷ insert-h9 63 ∷ delete-of 62 ∷ delete-of 63 ∷ collect 16 ∷ insert-h9 62 ∷ delete-of 62 ∷ collect 16 ∷ collect 16 ∷ []) ≡

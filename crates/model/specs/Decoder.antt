@@ -138,7 +138,7 @@ unfoldable pub ready : Decoder → ℕ → Bool
 ready D i = readyDelete (D .finished) (deleteOf D i)
 
 unfoldable pub nextFreed : Decoder → Option ℕ
-nextFreed D = Option·map deleteIndex (first deleteIndex (λ d. ready D (d .index)) (D .deletes))
+nextFreed D = Option·map deleteIndex (first (λ d. ready D (d .index)) (D .deletes))
 
 unfoldable pub without : Decoder → ℕ → Decoder
 without D i = withDeletes (withEntries D (cut heldIndex i (D .entries))) (cut deleteIndex i (D .deletes))

@@ -82,7 +82,7 @@ dynamicName name (some e) = by-index (e .index)
 
 unfoldable pub staticName : List Sent → List ℕ → StaticFound → Name
 staticName l name (At j) = by-index (j .value)
-staticName l name Nothing = dynamicName name (first sentIndex (serves name) l)
+staticName l name Nothing = dynamicName name (first (serves name) l)
 
 -- "A literal, and an insert, names by the lowest static index with that name, else the lowest dynamic one not under deletion, else by string."
 unfoldable pub chooseName : List Sent → List ℕ → Name
@@ -94,7 +94,7 @@ dynamicField l f (some e) = indexed (e .index)
 
 unfoldable pub staticField : List Sent → Field → StaticFound → Representation
 staticField l f (At j) = indexed (j .value)
-staticField l f Nothing = dynamicField l f (first sentIndex (servesBoth (f .name) (f .value)) l)
+staticField l f Nothing = dynamicField l f (first (servesBoth (f .name) (f .value)) l)
 
 -- "A field with flag 1 is a literal with N. Otherwise use the lowest static index with equal name and value, else the lowest such dynamic
 -- index not under deletion, else a literal."

@@ -19,6 +19,11 @@ pub record Account : Type 0 where
   pub held : ℕ
   pub count : ℕ
 
+-- the first that passes a test: in a table ascending by index the one of lowest index, among deletes the one that arrived first
+unfoldable pub first : {X : Type 0} → (X → Bool) → List X → Option X
+first test [] = none
+first test (x ∷ l) = pick (test x) (some x) (first test l)
+
 module _ {X : Type 0} (index : X → ℕ) where
   -- every index at least `from`, each larger than the one before it
   abbrev pub Ascending : ℕ → List X → Type 0
@@ -44,11 +49,6 @@ module _ {X : Type 0} (index : X → ℕ) where
   unfoldable pub cut : ℕ → List X → List X
   cut i [] = []
   cut i (x ∷ l) = pick (eqb (index x) i) l (x ∷ cut i l)
-
-  -- the first entry that passes a test: in a table ascending by index the one of lowest index, among deletes the one that arrived first
-  unfoldable pub first : (X → Bool) → List X → Option X
-  first test [] = none
-  first test (x ∷ l) = pick (test x) (some x) (first test l)
 
   -- "the lowest from 62 that is not held": the lowest index from n on that no entry has
   unfoldable pub vacantFrom : ℕ → List X → ℕ

@@ -74,20 +74,20 @@ module _ (D : Decoder) (F : FormsDecoder D) (before : List Delete) (d : Delete) 
 
   next : (nextFreed D ≡ some (d .index)) ⊎ Sooner
   unfolding nextFreed first Sooner
-  next = go (first deleteIndex test before) refl
+  next = go (first test before) refl
     where
       test : Delete → Bool
       test e = ready D (e .index)
 
-      freed : (e : Delete) → first deleteIndex test (before ++ (d ∷ W .behind)) ≡ some e
-          → Option·map deleteIndex (first deleteIndex test (D .deletes)) ≡ some (e .index)
-      freed e q = ap (λ (l : List Delete). Option·map deleteIndex (first deleteIndex test l)) (W .place) ∙ ap (Option·map deleteIndex) q
+      freed : (e : Delete) → first test (before ++ (d ∷ W .behind)) ≡ some e
+          → Option·map deleteIndex (first test (D .deletes)) ≡ some (e .index)
+      freed e q = ap (λ (l : List Delete). Option·map deleteIndex (first test l)) (W .place) ∙ ap (Option·map deleteIndex) q
 
-      own : first deleteIndex test (d ∷ W .behind) ≡ some d
-      own = ap (λ (b : Bool). pick b (some d) (first deleteIndex test (W .behind))) is-ready
+      own : first test (d ∷ W .behind) ≡ some d
+      own = ap (λ (b : Bool). pick b (some d) (first test (W .behind))) is-ready
 
-      go : (o : Option Delete) → first deleteIndex test before ≡ o
-          → (Option·map deleteIndex (first deleteIndex test (D .deletes)) ≡ some (d .index)) ⊎ Sooner
+      go : (o : Option Delete) → first test before ≡ o
+          → (Option·map deleteIndex (first test (D .deletes)) ≡ some (d .index)) ⊎ Sooner
       go none q = inl (freed d (first-right deleteIndex test before (d ∷ W .behind) q ∙ own))
       go (some e) q =
           let y = first-there deleteIndex test before e q in

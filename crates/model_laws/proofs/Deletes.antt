@@ -110,12 +110,12 @@ module _ {X : Type 0} (index : X → ℕ) where
       pub passes : test x ≡ true
       pub none-before : (e : X) → List·Memᴰ e before → test e ≡ false
 
-    pub first-of : (l : List X) (x : X) → first index test l ≡ some x → FirstOf l x
+    pub first-of : (l : List X) (x : X) → first test l ≡ some x → FirstOf l x
     unfolding first
     first-of [] x h = nope (cc)
     first-of (y ∷ l) x h = go (test y) refl h (λ k. first-of l x k)
       where
-        go : (b : Bool) → test y ≡ b → pick b (some y) (first index test l) ≡ some x → (first index test l ≡ some x → FirstOf l x) → FirstOf (y ∷ l) x
+        go : (b : Bool) → test y ≡ b → pick b (some y) (first test l) ≡ some x → (first test l ≡ some x → FirstOf l x) → FirstOf (y ∷ l) x
         go true e k r =
             let same : y ≡ x = cc in
             record {
@@ -136,28 +136,28 @@ module _ {X : Type 0} (index : X → ℕ) where
             }
 
     -- in two lists: that of the first, or else that of the second
-    pub first-left : (l m : List X) (x : X) → first index test l ≡ some x → first index test (l ++ m) ≡ some x
+    pub first-left : (l m : List X) (x : X) → first test l ≡ some x → first test (l ++ m) ≡ some x
     unfolding first
     first-left [] m x h = nope (cc)
     first-left (y ∷ l) m x h = go (test y) h (λ k. first-left l m x k)
       where
-        go : (b : Bool) → pick b (some y) (first index test l) ≡ some x → (first index test l ≡ some x → first index test (l ++ m) ≡ some x)
-            → pick b (some y) (first index test (l ++ m)) ≡ some x
+        go : (b : Bool) → pick b (some y) (first test l) ≡ some x → (first test l ≡ some x → first test (l ++ m) ≡ some x)
+            → pick b (some y) (first test (l ++ m)) ≡ some x
         go true k r = k
         go false k r = r k
 
-    pub first-right : (l m : List X) → first index test l ≡ none → first index test (l ++ m) ≡ first index test m
+    pub first-right : (l m : List X) → first test l ≡ none → first test (l ++ m) ≡ first test m
     unfolding first
     first-right [] m h = refl
     first-right (y ∷ l) m h = go (test y) h (λ k. first-right l m k)
       where
-        go : (b : Bool) → pick b (some y) (first index test l) ≡ none → (first index test l ≡ none → first index test (l ++ m) ≡ first index test m)
-            → pick b (some y) (first index test (l ++ m)) ≡ first index test m
+        go : (b : Bool) → pick b (some y) (first test l) ≡ none → (first test l ≡ none → first test (l ++ m) ≡ first test m)
+            → pick b (some y) (first test (l ++ m)) ≡ first test m
         go true k r = nope (cc)
         go false k r = r k
 
     -- one with its index is there
-    pub first-there : (l : List X) (x : X) → first index test l ≡ some x → (y : X) × (look index (index x) l ≡ some y)
+    pub first-there : (l : List X) (x : X) → first test l ≡ some x → (y : X) × (look index (index x) l ≡ some y)
     unfolding first look
     first-there [] x h = nope (cc)
     first-there (z ∷ l) x h = go (test z) h (λ k. first-there l x k)
@@ -166,7 +166,7 @@ module _ {X : Type 0} (index : X → ℕ) where
         found true o y = (z, refl)
         found false o y = y
 
-        go : (b : Bool) → pick b (some z) (first index test l) ≡ some x → (first index test l ≡ some x → (y : X) × (look index (index x) l ≡ some y))
+        go : (b : Bool) → pick b (some z) (first test l) ≡ some x → (first test l ≡ some x → (y : X) × (look index (index x) l ≡ some y))
             → (y : X) × (pick (eqb (index z) (index x)) (some z) (look index (index x) l) ≡ some y)
         go true k r = let same : z ≡ x = cc in (z, pick-yes (index z) (index x) _ _ (ap index same))
         go false k r = found (eqb (index z) (index x)) (look index (index x) l) (r k)

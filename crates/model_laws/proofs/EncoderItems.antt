@@ -107,7 +107,7 @@ module _ (l : List Sent) (a : Ascending sentIndex 62 l) where
   unfolding chooseName staticName dynamicName
   name-chosen name = go (findName name) refl
     where
-      dynamic : (o : Option Sent) → first sentIndex (serves name) l ≡ o → Chosen name (dynamicName name o)
+      dynamic : (o : Option Sent) → first (serves name) l ≡ o → Chosen name (dynamicName name o)
       dynamic none h = by-string refl
       dynamic (some e) h =
           let s = first-sound sentIndex (serves name) 62 l e a h in
@@ -116,7 +116,7 @@ module _ (l : List Sent) (a : Ascending sentIndex 62 l) where
 
       go : (o : StaticFound) → findName name ≡ o → Chosen name (staticName l name o)
       go (At j) h = let w = name-found name 61 1 j h in by-static (j .value) (static-within (j .value) (w .low) (omega (arith, w .high))) (w .holds) refl
-      go Nothing h = dynamic (first sentIndex (serves name) l) refl
+      go Nothing h = dynamic (first (serves name) l) refl
 
   -- what a representation is worth: it means the field, and an entry that it names is held and not under deletion
   abbrev Sound : Field → MeantItem → Type 0
@@ -153,7 +153,7 @@ module _ (l : List Sent) (a : Ascending sentIndex 62 l) where
               (record { sent = e; found = found; holds = refl; lives = lives }, tt),
             ))
 
-    both-dynamic : (f .flag < 2 → 0 ≡ f .flag) → (o : Option Sent) → first sentIndex (servesBoth (f .name) (f .value)) l ≡ o
+    both-dynamic : (f .flag < 2 → 0 ≡ f .flag) → (o : Option Sent) → first (servesBoth (f .name) (f .value)) l ≡ o
         → Sound f (meant l (dynamicField l f o))
     unfolding dynamicField fieldsOf
     both-dynamic n none h = name-sound 0 n
@@ -175,7 +175,7 @@ module _ (l : List Sent) (a : Ascending sentIndex 62 l) where
             let same′ : entryAt (j .value) .value ≡ f .value = w .holds .1 in
             subst (Sound f) (sym (pick-true (isStatic (j .value)) _ _ static))
             ((λ t k. record { flag = n t k; name = same k; value = same′ k } ∷ []), tt)
-        go Nothing h = both-dynamic n (first sentIndex (servesBoth (f .name) (f .value)) l) refl
+        go Nothing h = both-dynamic n (first (servesBoth (f .name) (f .value)) l) refl
 
     choose-sound : Sound f (meant l (choose l f))
     unfolding choose

@@ -73,12 +73,12 @@ module _ (D : Decoder) (F : FormsDecoder D) where
   -- the entry that a collect frees is ready, so held
   pub freed-ready : (i : ℕ) → nextFreed D ≡ some i → ready D i ≡ true
   unfolding nextFreed
-  freed-ready i e = go (first deleteIndex test (D .deletes)) refl e
+  freed-ready i e = go (first test (D .deletes)) refl e
     where
       test : Delete → Bool
       test d = ready D (d .index)
 
-      go : (o : Option Delete) → first deleteIndex test (D .deletes) ≡ o → Option·map deleteIndex o ≡ some i → ready D i ≡ true
+      go : (o : Option Delete) → first test (D .deletes) ≡ o → Option·map deleteIndex o ≡ some i → ready D i ≡ true
       go none q h = nope (cc)
       go (some d) q h = let same : d .index ≡ i = cc in rw same at (first-of deleteIndex test (D .deletes) d q .passes)
 

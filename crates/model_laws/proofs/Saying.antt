@@ -40,11 +40,11 @@ use Rattle.model_laws.proofs.FormsSent.{new-fine}
 
 module _ (l : List Sent) (order : Ascending sentIndex 62 l) (entries : (i : ℕ) (e : Sent) → look sentIndex i l ≡ some e → FineSent e) where
   -- an entry that was found has an index that can be said
-  first-fine : (test : Sent → Bool) (e : Sent) → first sentIndex test l ≡ some e → (0 < e .index) × (e .index ≤ largest)
+  first-fine : (test : Sent → Bool) (e : Sent) → first test l ≡ some e → (0 < e .index) × (e .index ≤ largest)
   first-fine test e q =
       let f : FineSent e = entries (e .index) e (first-sound sentIndex test 62 l e order q .0) in (omega arith, omega arith)
 
-  dynamic-name : (name : List ℕ) → length name ≤ 255 → (o : Option Sent) → first sentIndex (serves name) l ≡ o → FineName (dynamicName name o)
+  dynamic-name : (name : List ℕ) → length name ≤ 255 → (o : Option Sent) → first (serves name) l ≡ o → FineName (dynamicName name o)
   unfolding dynamicName
   dynamic-name name h none q = h
   dynamic-name name h (some e) q = first-fine (serves name) e q
@@ -52,14 +52,14 @@ module _ (l : List Sent) (order : Ascending sentIndex 62 l) (entries : (i : ℕ)
   static-name : (name : List ℕ) → length name ≤ 255 → (o : StaticFound) → findName name ≡ o → FineName (staticName l name o)
   unfolding staticName
   static-name name h (At j) q = let f = name-found name 61 1 j q in (omega arith, omega arith)
-  static-name name h Nothing q = dynamic-name name h (first sentIndex (serves name) l) refl
+  static-name name h Nothing q = dynamic-name name h (first (serves name) l) refl
 
   pub name-fine : (name : List ℕ) → length name ≤ 255 → FineName (chooseName l name)
   unfolding chooseName
   name-fine name h = static-name name h (findName name) refl
 
   module _ (f : Field) (fine : form.FineField f) where
-    dynamic-field : (o : Option Sent) → first sentIndex (servesBoth (f .name) (f .value)) l ≡ o → representation.FineRepresentation (dynamicField l f o)
+    dynamic-field : (o : Option Sent) → first (servesBoth (f .name) (f .value)) l ≡ o → representation.FineRepresentation (dynamicField l f o)
     unfolding dynamicField
     dynamic-field none q = (omega arith, name-fine (f .name) (fine .name-short), fine .value-short)
     dynamic-field (some e) q = first-fine (servesBoth (f .name) (f .value)) e q
@@ -67,7 +67,7 @@ module _ (l : List Sent) (order : Ascending sentIndex 62 l) (entries : (i : ℕ)
     static-field : (o : StaticFound) → findBoth (f .name) (f .value) ≡ o → representation.FineRepresentation (staticField l f o)
     unfolding staticField
     static-field (At j) q = let g = both-found (f .name) (f .value) 61 1 j q in (omega arith, omega arith)
-    static-field Nothing q = dynamic-field (first sentIndex (servesBoth (f .name) (f .value)) l) refl
+    static-field Nothing q = dynamic-field (first (servesBoth (f .name) (f .value)) l) refl
 
     pub choice-fine : representation.FineRepresentation (choose l f)
     unfolding choose

@@ -164,14 +164,14 @@ module _ {X : Type 0} (index : X → ℕ) where
     total-map w h (x ∷ l) = rw (h x, total-map w h l)
 
   -- ---- the first entry of a kind
-  pub first-sound : (test : X → Bool) (lo : ℕ) (l : List X) (x : X) → Ascending index lo l → first index test l ≡ some x
+  pub first-sound : (test : X → Bool) (lo : ℕ) (l : List X) (x : X) → Ascending index lo l → first test l ≡ some x
       → (look index (index x) l ≡ some x) × (test x ≡ true)
   unfolding first look
   first-sound test lo [] x a h = nope (cc)
   first-sound test lo (y ∷ l) x a h = go (test y) refl h (λ k. first-sound test (suc (index y)) l x (a .1) k)
     where
-      go : (b : Bool) → test y ≡ b → pick b (some y) (first index test l) ≡ some x
-          → (first index test l ≡ some x → (look index (index x) l ≡ some x) × (test x ≡ true))
+      go : (b : Bool) → test y ≡ b → pick b (some y) (first test l) ≡ some x
+          → (first test l ≡ some x → (look index (index x) l ≡ some x) × (test x ≡ true))
           → (pick (eqb (index y) (index x)) (some y) (look index (index x) l) ≡ some x) × (test x ≡ true)
       go true e k r = let z : y ≡ x = cc in (pick-yes (index y) (index x) _ _ (ap index z) ∙ k, rw z at e)
       go false e k r =
@@ -182,25 +182,25 @@ module _ {X : Type 0} (index : X → ℕ) where
             q .1,
           )
 
-  pub first-none : (test : X → Bool) (l : List X) (i : ℕ) (x : X) → first index test l ≡ none → look index i l ≡ some x → test x ≡ true → ⊥
+  pub first-none : (test : X → Bool) (l : List X) (i : ℕ) (x : X) → first test l ≡ none → look index i l ≡ some x → test x ≡ true → ⊥
   unfolding first look
   first-none test [] i x h k t = nope (cc)
   first-none test (y ∷ l) i x h k t = go (test y) refl h (eqb (index y) i) k (λ u v. first-none test l i x u v t)
     where
-      go : (b : Bool) → test y ≡ b → pick b (some y) (first index test l) ≡ none → (d : Bool) → pick d (some y) (look index i l) ≡ some x
-          → (first index test l ≡ none → look index i l ≡ some x → ⊥) → ⊥
+      go : (b : Bool) → test y ≡ b → pick b (some y) (first test l) ≡ none → (d : Bool) → pick d (some y) (look index i l) ≡ some x
+          → (first test l ≡ none → look index i l ≡ some x → ⊥) → ⊥
       go true e u d v r = nope (cc)
       go false e u true v r = let s : y ≡ x = cc in let q = ap test s in nope (cc)
       go false e u false v r = r u v
 
-  pub first-lowest : (test : X → Bool) (lo : ℕ) (l : List X) (x : X) (i : ℕ) (y : X) → Ascending index lo l → first index test l ≡ some x
+  pub first-lowest : (test : X → Bool) (lo : ℕ) (l : List X) (x : X) (i : ℕ) (y : X) → Ascending index lo l → first test l ≡ some x
       → look index i l ≡ some y → test y ≡ true → index x ≤ i
   unfolding first look
   first-lowest test lo [] x i y a h k t = nope (cc)
   first-lowest test lo (z ∷ l) x i y a h k t = go (test z) refl h (eqb (index z) i) refl k (λ u v. first-lowest test (suc (index z)) l x i y (a .1) u v t)
     where
-      go : (b : Bool) → test z ≡ b → pick b (some z) (first index test l) ≡ some x → (d : Bool) → eqb (index z) i ≡ d
-          → pick d (some z) (look index i l) ≡ some y → (first index test l ≡ some x → look index i l ≡ some y → index x ≤ i) → index x ≤ i
+      go : (b : Bool) → test z ≡ b → pick b (some z) (first test l) ≡ some x → (d : Bool) → eqb (index z) i ≡ d
+          → pick d (some z) (look index i l) ≡ some y → (first test l ≡ some x → look index i l ≡ some y → index x ≤ i) → index x ≤ i
       go true e u true f v r = let s : z ≡ x = cc in omega (arith, ap index s, eqb-true (index z) i f)
       go true e u false f v r =
           let s : z ≡ x = cc in
@@ -210,10 +210,10 @@ module _ {X : Type 0} (index : X → ℕ) where
       go false e u false f v r = r u v
 
   pub first-some : (test : X → Bool) (l : List X) (i : ℕ) (x : X) → look index i l ≡ some x → test x ≡ true
-      → (y : X) × (first index test l ≡ some y)
-  first-some test l i x h t = go (first index test l) refl
+      → (y : X) × (first test l ≡ some y)
+  first-some test l i x h t = go (first test l) refl
     where
-      go : (o : Option X) → first index test l ≡ o → (y : X) × (first index test l ≡ some y)
+      go : (o : Option X) → first test l ≡ o → (y : X) × (first test l ≡ some y)
       go none e = absurd (first-none test l i x e h t)
       go (some y) e = (y, e)
 

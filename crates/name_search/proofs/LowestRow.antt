@@ -49,23 +49,23 @@ row-within test (suc k) i p e =
 
 module _ (m : List ℕ) (test : ℕ → Bool) (test' : TableRow → Bool) where
   pub search-model : (k i p : ℕ) → ((j : ℕ) → i ≤ j → j < i + k → test' (rowAt m j) ≡ test j) → lowestRow test k i ≡ Row p
-      → first rowIndex test' (rowsOf m i k) ≡ some (rowAt m p)
+      → first test' (rowsOf m i k) ≡ some (rowAt m p)
   unfolding lowestRow first rowsOf
   search-model zero i p f e = nope (cc)
   search-model (suc k) i p f e =
       let b = f i (omega arith) (omega arith) in
-      pick-both (λ (r : Sought). r ≡ Row p → first rowIndex test' (rowsOf m i (suc k)) ≡ some (rowAt m p)) (test i) (Row i) (lowestRow test k (i + 1))
+      pick-both (λ (r : Sought). r ≡ Row p → first test' (rowsOf m i (suc k)) ≡ some (rowAt m p)) (test i) (Row i) (lowestRow test k (i + 1))
       (λ t d. let z : i ≡ p = cc in pick-true (test' (rowAt m i)) _ _ (b ∙ t) ∙ ap (λ (j : ℕ). some (rowAt m j)) z)
       (λ t d. pick-false (test' (rowAt m i)) _ _ (b ∙ t) ∙ search-model k (i + 1) p (λ j l h. f j (omega arith) (omega arith)) d)
       e
 
   pub search-model-none : (k i : ℕ) → ((j : ℕ) → i ≤ j → j < i + k → test' (rowAt m j) ≡ test j) → lowestRow test k i ≡ Nothing
-      → first rowIndex test' (rowsOf m i k) ≡ none
+      → first test' (rowsOf m i k) ≡ none
   unfolding lowestRow first rowsOf
   search-model-none zero i f e = refl
   search-model-none (suc k) i f e =
       let b = f i (omega arith) (omega arith) in
-      pick-both (λ (r : Sought). r ≡ Nothing → first rowIndex test' (rowsOf m i (suc k)) ≡ none) (test i) (Row i) (lowestRow test k (i + 1))
+      pick-both (λ (r : Sought). r ≡ Nothing → first test' (rowsOf m i (suc k)) ≡ none) (test i) (Row i) (lowestRow test k (i + 1))
       (λ t d. nope (cc))
       (λ t d. pick-false (test' (rowAt m i)) _ _ (b ∙ t) ∙ search-model-none k (i + 1) (λ j l h. f j (omega arith) (omega arith)) d)
       e

@@ -45,12 +45,12 @@ module _ (m : List ℕ) where
       (λ e. pick-yes (r .index) i _ _ e) (λ e. pick-no (r .index) i _ _ e ∙ look-sents i rs)
 
   first-sents : (test : Sent → Bool) (rs : List TableRow)
-      → first sentIndex test (map (sentOfRow m) rs) ≡ Option·map (sentOfRow m) (first rowIndex (λ r. test (sentOfRow m r)) rs)
+      → first test (map (sentOfRow m) rs) ≡ Option·map (sentOfRow m) (first (λ r. test (sentOfRow m r)) rs)
   unfolding first
   first-sents test [] = refl
   first-sents test (r ∷ rs) =
-      pick-both (λ (o : Option TableRow). first sentIndex test (map (sentOfRow m) (r ∷ rs)) ≡ Option·map (sentOfRow m) o) (test (sentOfRow m r)) (some r)
-      (first rowIndex (λ r. test (sentOfRow m r)) rs)
+      pick-both (λ (o : Option TableRow). first test (map (sentOfRow m) (r ∷ rs)) ≡ Option·map (sentOfRow m) o) (test (sentOfRow m r)) (some r)
+      (first (λ r. test (sentOfRow m r)) rs)
       (λ e. pick-true (test (sentOfRow m r)) _ _ e) (λ e. pick-false (test (sentOfRow m r)) _ _ e ∙ first-sents test rs)
 
   vacant-sents : (n : ℕ) (rs : List TableRow) → vacantFrom sentIndex n (map (sentOfRow m) rs) ≡ vacantFrom rowIndex n rs
@@ -144,18 +144,18 @@ module _ (E : Encoder) (m : List ℕ) (H : HoldsEncoder E m) where
 
   module _ (test : Sent → Bool) (at : ℕ → Bool) (is : (j : ℕ) → j < countOf m → test (sentAt m j) ≡ at j) where
     test-found : (place : ℕ) → lowestRow at (countOf m) 0 ≡ Row place
-        → (place < countOf m) × (first sentIndex test (E .entries) ≡ some (sentAt m place))
+        → (place < countOf m) × (first test (E .entries) ≡ some (sentAt m place))
     test-found place e =
         let b = row-below at (countOf m) 0 place e in (
           omega arith,
-          ap (first sentIndex test) (sym entries-are) ∙ first-sents m test rows
+          ap (first test) (sym entries-are) ∙ first-sents m test rows
               ∙ ap (Option·map (sentOfRow m))
               (search-model m at (λ r. test (sentOfRow m r)) (countOf m) 0 place (λ j l h. is j (omega arith)) e),
         )
 
-    test-missed : lowestRow at (countOf m) 0 ≡ Nothing → first sentIndex test (E .entries) ≡ none
+    test-missed : lowestRow at (countOf m) 0 ≡ Nothing → first test (E .entries) ≡ none
     test-missed e =
-        ap (first sentIndex test) (sym entries-are) ∙ first-sents m test rows
+        ap (first test) (sym entries-are) ∙ first-sents m test rows
         ∙ ap (Option·map (sentOfRow m)) (search-model-none m at (λ r. test (sentOfRow m r)) (countOf m) 0 (λ j l h. is j (omega arith)) e)
 
   status-low : (j : ℕ) → j < countOf m → statusAt m j ≤ 1
@@ -174,18 +174,18 @@ module _ (E : Encoder) (m : List ℕ) (H : HoldsEncoder E m) where
   serves-both-is name value j h = ap (λ (b : Bool). b && same (valueAt m j) value) (serves-is name j h)
 
   pub says-serving : (name : List ℕ) (place : ℕ) → lowestRow (servesAt m name) (countOf m) 0 ≡ Row place
-      → (place < countOf m) × (first sentIndex (serves name) (E .entries) ≡ some (sentAt m place))
+      → (place < countOf m) × (first (serves name) (E .entries) ≡ some (sentAt m place))
   says-serving name = test-found (serves name) (servesAt m name) (serves-is name)
 
-  pub says-unserved : (name : List ℕ) → lowestRow (servesAt m name) (countOf m) 0 ≡ Nothing → first sentIndex (serves name) (E .entries) ≡ none
+  pub says-unserved : (name : List ℕ) → lowestRow (servesAt m name) (countOf m) 0 ≡ Nothing → first (serves name) (E .entries) ≡ none
   says-unserved name = test-missed (serves name) (servesAt m name) (serves-is name)
 
   pub says-serving-both : (name value : List ℕ) (place : ℕ) → lowestRow (servesBothAt m name value) (countOf m) 0 ≡ Row place
-      → (place < countOf m) × (first sentIndex (servesBoth name value) (E .entries) ≡ some (sentAt m place))
+      → (place < countOf m) × (first (servesBoth name value) (E .entries) ≡ some (sentAt m place))
   says-serving-both name value = test-found (servesBoth name value) (servesBothAt m name value) (serves-both-is name value)
 
   pub says-unserved-both : (name value : List ℕ) → lowestRow (servesBothAt m name value) (countOf m) 0 ≡ Nothing
-      → first sentIndex (servesBoth name value) (E .entries) ≡ none
+      → first (servesBoth name value) (E .entries) ≡ none
   says-unserved-both name value = test-missed (servesBoth name value) (servesBothAt m name value) (serves-both-is name value)
 
   -- ---- "the lowest from 62 that is not held"

@@ -49,12 +49,12 @@ pub record EncoderChanges (m : List ℕ) (E : Encoder) : Type 0 where
   pub nowhere : (x place : ℕ) → missing m x place → look sentIndex x (E .entries) ≡ none
   -- "the lowest dynamic one not under deletion"
   pub serving : (name : List ℕ) (place : ℕ) → lowestRow (servesAt m name) (countOf m) 0 ≡ Row place
-      → (place < countOf m) × (first sentIndex (serves name) (E .entries) ≡ some (sentAt m place))
-  pub unserved : (name : List ℕ) → lowestRow (servesAt m name) (countOf m) 0 ≡ Nothing → first sentIndex (serves name) (E .entries) ≡ none
+      → (place < countOf m) × (first (serves name) (E .entries) ≡ some (sentAt m place))
+  pub unserved : (name : List ℕ) → lowestRow (servesAt m name) (countOf m) 0 ≡ Nothing → first (serves name) (E .entries) ≡ none
   pub servingBoth : (name value : List ℕ) (place : ℕ) → lowestRow (servesBothAt m name value) (countOf m) 0 ≡ Row place
-      → (place < countOf m) × (first sentIndex (servesBoth name value) (E .entries) ≡ some (sentAt m place))
+      → (place < countOf m) × (first (servesBoth name value) (E .entries) ≡ some (sentAt m place))
   pub unservedBoth : (name value : List ℕ) → lowestRow (servesBothAt m name value) (countOf m) 0 ≡ Nothing
-      → first sentIndex (servesBoth name value) (E .entries) ≡ none
+      → first (servesBoth name value) (E .entries) ≡ none
   -- "the lowest from 62 that is not held"
   pub vacant : 62 + memory.vacantRow m (countOf m) 0 ≡ vacantFrom sentIndex 62 (E .entries)
   -- ---- an entry put in at it
