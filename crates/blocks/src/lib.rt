@@ -1,3 +1,2 @@
-// Header blocks: their representations read and written, and whole blocks checked.
+// Header blocks: their representations read, and whole blocks checked.
 pub mod read;
-pub mod write;

@@ -18,9 +18,9 @@ use Rattle.state.specs.Layout.{statusAt}
 use Rattle.state.specs.Front.{marksOf}
 use Rattle.state.specs.DecoderState.{deleteAt, decoderOf}
 use Rattle.state.specs.Forms.{formsDecoder}
-use Rattle.parts.specs.Hold.{GoodDelete, lowestCase, lowestTold}
-use Rattle.parts.specs.declared.hold.Lowest.{Lowest}
-use Rattle.parts.proofs.Telling.{told-back}
+use Rattle.holds.specs.Hold.{GoodDelete, lowestCase, lowestTold}
+use Rattle.holds.specs.declared.hold.Lowest.{Lowest}
+use Rattle.holds.proofs.Telling.{told-back}
 use Rattle.table_laws.specs.DecoderChanges.{found, missing}
 use Rattle.reply.specs.Result.{Result, stepped}
 use Rattle.decoder.specs.Calls.{holdCall}

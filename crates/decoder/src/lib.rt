@@ -1,5 +1,2 @@
-// The decoder's calls, one module a call. Reads, blocks and collects are in crates of their own.
-pub mod ended;
-pub mod enquiry;
-pub mod over;
+// The decoder's start. Its other calls are in crates of their own.
 pub mod start;

@@ -12,7 +12,6 @@ ghost use Rattle.parts.specs.Turn.{partTurn, partIn};
 ghost use Rattle.parts.specs.Close.{closedOf};
 ghost use Rattle.decoder.specs.Calls.{blockCall};
 ghost use Rattle.decoder_survey.specs.Measure.{Stands};
-ghost use Rattle.decoder_survey.specs.Passes.{surveyAnswer, ToldSurvey};
 use decoder_fields::write::write_fields;
 use decoder_short::block::Given;
 use decoder_short::block::give_short;
@@ -21,7 +20,6 @@ use decoder_survey::measure::survey_block;
 use integers::answer::NO_ROOM;
 use integers::answer::NO_STATE;
 use integers::answer::OUT_OF_TURN;
-use integers::answer::WAITS;
 use integers::number::StreamNumber;
 use parts::close::close_after;
 use parts::turn::Part;
@@ -29,6 +27,7 @@ use parts::turn::Turn;
 use parts::turn::turn_of;
 use reply::Reply;
 use state::decoder::forms_decoder;
+use survey_reply::replied::replied;
 
 // The part with this number, of the two that there are.
 fn kind_of(part: u64) -> Part
@@ -39,22 +38,6 @@ fn kind_of(part: u64) -> Part
         return Part::Nontrailer;
     }
     Part::Trailer
-}
-
-// The reply to a block by its survey: its refusal, the vacant index that it waits for, or done with the bytes of its fields.
-fn replied(survey: Survey) -> Reply
-    requires { ⌜ ToldSurvey survey ⌝ }
-    ensures { λ r. ⌜ answerOf r ≡ surveyAnswer survey ⌝ }
-{
-    match survey {
-        Survey::Refused(number) => Reply::refused(number),
-        Survey::Waits(index) => Reply {
-            number: WAITS,
-            first: index.value,
-            second: 0,
-        },
-        Survey::Bytes(n) => Reply::done(n as u32, 0),
-    }
 }
 
 // Finishes what a block finishes that was given: a trailer both parts. Stream and part become types again here alone: held as types through the passes

@@ -10,10 +10,10 @@ use Rattle.integers.specs.declared.number.StreamNumber.{StreamNumber}
 use Rattle.model.specs.Parts.{Part, nontrailer, trailer, Marks, Delete, namesPart, isOpen, lowestOpen, streams, isReady}
 use Rattle.model_laws.proofs.Marks.{OpenPart, ready-marked, ready-or}
 use Rattle.model_laws.proofs.Tables.{nope}
-use Rattle.parts.specs.Hold.{lowestCase}
-use Rattle.parts.specs.declared.hold.Lowest.{Lowest}
-use Rattle.parts.specs.declared.hold.Lowest.the-variants.{Stream, Nothing}
-use Rattle.parts.proofs.Telling.{stream-case, no-case}
+use Rattle.holds.specs.Hold.{lowestCase}
+use Rattle.holds.specs.declared.hold.Lowest.{Lowest}
+use Rattle.holds.specs.declared.hold.Lowest.the-variants.{Stream, Nothing}
+use Rattle.holds.proofs.Telling.{stream-case, no-case}
 
 module _ (marks : Marks) (d : Delete) where
   abbrev openAt : ℕ → Bool

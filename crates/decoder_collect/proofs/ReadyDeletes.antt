@@ -20,7 +20,7 @@ use Rattle.state.specs.DecoderState.{deleteAt, deletesOf, decoderOf}
 use Rattle.state_laws.proofs.Each.{Each}
 use Rattle.state_laws.proofs.Look.{distinct-each}
 use Rattle.state_laws.proofs.DecoderLaws.{decoder-laws}
-use Rattle.parts.specs.Hold.{GoodDelete}
+use Rattle.holds.specs.Hold.{GoodDelete}
 use Rattle.table_laws.specs.DecoderChanges.{DecoderStands, found, missing, DecoderChanges}
 use Rattle.table_laws.proofs.DecoderClaim.{decoder-claim}
 use Rattle.decoder_collect.specs.Ready.{readyAt, nextFrom}

@@ -8,9 +8,9 @@ use Rattle.memory.proofs.Order.{need-true, need-false}
 use Rattle.integers.specs.Answers.{refusal, not-allowed, no-state}
 use Rattle.integers.specs.declared.number.TableIndex.{TableIndex}
 use Rattle.wire.specs.Text.{stringBytes}
-use Rattle.wire.specs.StreamList.{listOf}
+use Rattle.stream_lists.specs.StreamList.{listOf}
 use Rattle.wire.specs.declared.text.StringPlace.{StringPlace}
-use Rattle.wire.specs.declared.stream_list.ListPlace.{ListPlace}
+use Rattle.stream_lists.specs.declared.stream_list.ListPlace.{ListPlace}
 use Rattle.wire.specs.declared.name.NamePlace.{NamePlace}
 use Rattle.wire.specs.declared.name.NamePlace.the-variants.{Index as NameIndex, Text}
 use Rattle.instructions.specs.Reading.{onInstruction, readForDecoder, instructionOf}

@@ -8,9 +8,9 @@ use mathlib.Core.Option.{Option}
 use mathlib.Core.List.{List}
 use Rattle.memory.proofs.Order.{need-true, need-false}
 use Rattle.integers.specs.Answers.{done, refusal, vacant, under-deletion}
-use Rattle.wire.specs.StreamList.{InList, listOf}
-use Rattle.wire.specs.declared.stream_list.ListPlace.{ListPlace}
-use Rattle.wire.proofs.ListBounds.{deltas-good}
+use Rattle.stream_lists.specs.StreamList.{InList, listOf}
+use Rattle.stream_lists.specs.declared.stream_list.ListPlace.{ListPlace}
+use Rattle.stream_lists.proofs.ListBounds.{deltas-good}
 use Rattle.instructions.specs.Instruction.{FineList}
 use Rattle.model.specs.Parts.{Delete}
 use Rattle.model.specs.Decoder.{Held, isSome, deleteEntry}

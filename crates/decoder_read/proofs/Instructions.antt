@@ -6,11 +6,11 @@ use mathlib.Core.List.{List}
 use Rattle.integers.specs.declared.number.TableIndex.{TableIndex}
 use Rattle.wire.specs.Text.{InString, stringLength}
 use Rattle.wire.specs.Name.{GoodName}
-use Rattle.wire.specs.StreamList.{InList}
+use Rattle.stream_lists.specs.StreamList.{InList}
 use Rattle.wire.specs.declared.text.StringPlace.{StringPlace}
 use Rattle.wire.specs.declared.name.NamePlace.{NamePlace}
 use Rattle.wire.specs.declared.name.NamePlace.the-variants.{Index, Text}
-use Rattle.wire.specs.declared.stream_list.ListPlace.{ListPlace}
+use Rattle.stream_lists.specs.declared.stream_list.ListPlace.{ListPlace}
 use Rattle.instructions.specs.Instruction.{FineIndex, FineInstruction}
 use Rattle.instructions.specs.Reading.{readForDecoder, instructionOf, InBytes}
 use Rattle.instructions.specs.declared.read.InstructionPlace.{InstructionPlace}

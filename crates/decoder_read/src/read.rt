@@ -1,7 +1,7 @@
 // One management instruction, read from the front of the bytes and done on the table.
 ghost use mathlib.Core.Path.{_≡_};
 ghost use mathlib.Core.Bool.{true};
-ghost use Rattle.wire.specs.StreamList.{InList, listOf};
+ghost use Rattle.stream_lists.specs.StreamList.{InList, listOf};
 ghost use Rattle.instructions.specs.Instruction.{FineIndex};
 ghost use Rattle.state.specs.Forms.{formsDecoder};
 ghost use Rattle.reply.specs.Reply.{answerOf};
@@ -18,10 +18,10 @@ use integers::number::TableIndex;
 use reply::Reply;
 use state::decoder::forms_decoder;
 use state::row::status_at;
+use stream_lists::stream_list::ListPlace;
 use table_search::find::Found;
 use table_search::find::find;
 use wire::name::NamePlace;
-use wire::stream_list::ListPlace;
 
 // A delete: 8, 9. It is kept with its lists.
 fn delete(

@@ -14,7 +14,7 @@ use blocks::read::read_representation;
 use entry_places::place::EntryLengths;
 use entry_places::place::lengths_at;
 use entry_places::place::locate;
-use fields::write::field_size;
+use field_writing::write::field_size;
 use integers::answer::TOO_LONG;
 use integers::number::TableIndex;
 use short_forms::short::ShortIndex;

@@ -3,4 +3,3 @@ pub mod Stored
 pub mod Listing
 pub mod Renumbering
 pub mod Closing
-pub mod Raising

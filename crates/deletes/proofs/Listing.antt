@@ -10,13 +10,13 @@ use Rattle.memory.specs.Numbers.{numberBytes}
 use Rattle.memory.proofs.Overlay.{overlay-append}
 use Rattle.memory.proofs.Numbers.{length-numberBytes}
 use Rattle.integers.specs.declared.number.StreamNumber.{StreamNumber}
-use Rattle.wire.specs.StreamList.{readDelta, readDeltas, streamsFrom, listOf, InList}
-use Rattle.wire.specs.declared.stream_list.ListPlace.{ListPlace}
-use Rattle.wire.specs.declared.stream_list.DeltaRead.{DeltaRead}
-use Rattle.wire.specs.declared.stream_list.DeltaRead.the-variants.{Stream, Refused}
-use Rattle.wire.specs.declared.stream_list.DeltasRead.the-variants.{End}
-use Rattle.wire.proofs.ListLaws.{deltas-refused, deltas-more, streams-end, streams-more}
-use Rattle.wire.proofs.ListBounds.{delta-good, deltas-good}
+use Rattle.stream_lists.specs.StreamList.{readDelta, readDeltas, streamsFrom, listOf, InList}
+use Rattle.stream_lists.specs.declared.stream_list.ListPlace.{ListPlace}
+use Rattle.stream_lists.specs.declared.stream_list.DeltaRead.{DeltaRead}
+use Rattle.stream_lists.specs.declared.stream_list.DeltaRead.the-variants.{Stream, Refused}
+use Rattle.stream_lists.specs.declared.stream_list.DeltasRead.the-variants.{End}
+use Rattle.stream_lists.proofs.ListLaws.{deltas-refused, deltas-more, streams-end, streams-more}
+use Rattle.stream_lists.proofs.ListBounds.{delta-good, deltas-good}
 use Rattle.state.specs.DecoderState.{streamsBytes}
 
 -- i of the streams are stored: the others, stored over `now`, give the whole

@@ -8,7 +8,7 @@ use Rattle.memory.specs.Bytes.{overlay}
 use Rattle.memory.specs.Numbers.{numberBytes}
 use Rattle.memory.proofs.Overlay.{overlay-append}
 use Rattle.memory.proofs.Numbers.{length-numberBytes}
-use Rattle.wire.specs.StreamList.{StreamList}
+use Rattle.stream_lists.specs.StreamList.{StreamList}
 use Rattle.model.specs.Parts.{Delete}
 use Rattle.state.specs.Layout.{deletePlace, nontrailerList, trailerList, listedPlace, deleteCountPlace, statusPlace, deleteCount}
 use Rattle.state.specs.DecoderState.{streamsBytes, listBytes, deleteBytes}

@@ -3,7 +3,7 @@ ghost use mathlib.Core.Path.{_≡_};
 ghost use Prim.Native.Nat.{ℕ, _+_, _≤_, _<_};
 ghost use lib.ListN.{length};
 ghost use Rattle.memory.specs.Bytes.{overlay};
-ghost use Rattle.wire.specs.StreamList.{InList, listOf};
+ghost use Rattle.stream_lists.specs.StreamList.{InList, listOf};
 ghost use Rattle.state.specs.Layout.{frontLength, decoderLength, countOf, deleteCount};
 ghost use Rattle.state.specs.DecoderState.{streamsBytes, listBytes};
 ghost use Rattle.deletes.specs.Deletes.{appended, renumbered, Dropping, dropped};
@@ -26,9 +26,9 @@ use state::layout::LISTED_BYTES;
 use state::layout::delete_place;
 use state::row::put_status;
 use state::row::status_at;
-use wire::stream_list::DeltaRead;
-use wire::stream_list::ListPlace;
-use wire::stream_list::read_delta;
+use stream_lists::stream_list::DeltaRead;
+use stream_lists::stream_list::ListPlace;
+use stream_lists::stream_list::read_delta;
 
 // Stores the streams that the list's deltas say.
 fn put_streams(m: &mut [u8], at: usize, s: &[u8], list: ListPlace)

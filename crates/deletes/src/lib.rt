@@ -1,3 +1,2 @@
-// The decoder's deletes, kept and dropped, and what the encoder's deletes will be made from.
+// The decoder's deletes, kept and dropped.
 pub mod kept;
-pub mod references;

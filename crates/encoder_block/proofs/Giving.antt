@@ -35,7 +35,7 @@ use Rattle.encoder_fields.specs.Measure.{fieldsIn, representationsOf, roomAnswe
 use Rattle.encoder_fields.specs.Refer.{entered}
 use Rattle.encoder_fields.proofs.Fields.{capped-low}
 use Rattle.encoder_fields.proofs.Bound.{room-ways}
-use Rattle.encoder_passes.proofs.Entering.{entered-length, entered-written}
+use Rattle.encoder_references.proofs.Entering.{entered-length, entered-written}
 use Rattle.encoder_passes.proofs.Writing.{Passed}
 
 -- ---- a result, part by part, as a function's contract has it

@@ -8,7 +8,7 @@ ghost use Rattle.table_search.specs.Search.{findFrom};
 ghost use Rattle.reply.specs.Reply.{answerOf};
 ghost use Rattle.encoder.specs.Calls.{deleteCall};
 ghost use Rattle.encoder.specs.Steps.{foundDelete};
-use instructions::write::write_delete;
+use instruction_writing::write::write_delete;
 use integers::answer::NO_ROOM;
 use integers::answer::NO_STATE;
 use integers::answer::NOT_ALLOWED;

@@ -50,7 +50,7 @@ fn choose_stored(m: &[u8], name: &[u8], value: &[u8]) -> Choice
     requires { ⌜ formsEncoder (now m) ≡ true ⌝ }
     ensures { λ r. ⌜ Chooses (now (m .entry)) (fieldWith 0 (now (name .entry)) (now (value .entry))) r ⌝ }
 {
-    match static_search::search::find_both(name, value) {
+    match static_lookup::lookup::find_both(name, value) {
         StaticFound::At(j) => Choice::Indexed(j),
         StaticFound::Nothing => match name_search::names::find_pair(m, name, value) {
             Paired::Both(place) => Choice::Indexed(row_index(m, place)),

@@ -31,7 +31,7 @@ pub fn choose_name(m: &[u8], name: &[u8]) -> NameChoice
     requires { ⌜ formsEncoder (now m) ≡ true ⌝ }
     ensures { λ r. ⌜ chosenName (now (name .entry)) r ≡ chooseName (encoderOf (now (m .entry)) .entries) (now (name .entry)) ⌝ }
 {
-    match static_search::search::find_name(name) {
+    match static_lookup::lookup::find_name(name) {
         StaticFound::At(i) => NameChoice::Index(i),
         StaticFound::Nothing => match name_search::names::find_name(m, name) {
             Sought::Row(place) => NameChoice::Index(row_index(m, place)),
@@ -44,7 +44,7 @@ pub fn choose_name(m: &[u8], name: &[u8]) -> NameChoice
 pub fn static_first(name: &[u8], dynamic: NameChoice) -> NameChoice
     ensures { λ r. ⌜ r ≡ staticFirst (findName (now (name .entry))) dynamic ⌝ }
 {
-    match static_search::search::find_name(name) {
+    match static_lookup::lookup::find_name(name) {
         StaticFound::At(i) => NameChoice::Index(i),
         StaticFound::Nothing => dynamic,
     }

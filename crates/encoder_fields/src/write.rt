@@ -8,9 +8,9 @@ ghost use Rattle.blocks.specs.Representation.{representationWire, FineRepresent
 ghost use Rattle.encoder_fields.specs.Measure.{InField, chosen};
 use crate::choice::Choice;
 use crate::choice::text_at;
-use blocks::write::write_indexed;
-use blocks::write::write_literal_index;
-use blocks::write::write_literal_text;
+use block_writing::write::write_indexed;
+use block_writing::write::write_literal_index;
+use block_writing::write::write_literal_text;
 use fields::read::FieldPlace;
 
 // One field's representation, by its choice.

@@ -13,11 +13,11 @@ ghost use Rattle.sizes.specs.Sizes.{insertIndexSize, insertTextSize};
 ghost use Rattle.reply.specs.Reply.{answerOf};
 ghost use Rattle.encoder.specs.Calls.{insertCall};
 ghost use Rattle.encoder_insert.specs.Steps.{Fitting, fittingInsert};
-use deletes::references::unrefer;
 use encoder_fields::name::NameChoice;
 use encoder_fields::name::choose_name;
-use instructions::write::write_insert_index;
-use instructions::write::write_insert_text;
+use horizons::references::unrefer;
+use instruction_writing::write::write_insert_index;
+use instruction_writing::write::write_insert_text;
 use integers::answer::NO_ROOM;
 use integers::answer::NO_STATE;
 use integers::answer::OVER_LIMIT;
@@ -53,7 +53,7 @@ fn enter(m: &mut [u8], place: usize, index: TableIndex, name: &[u8], value: &[u8
     requires { ⌜ heldOf (now m) + (length (now name) + length (now value) + 32) ≤ 4096 ⌝ }
     ensures { λ _. ⌜ now (m .exit) ≡ unreferred (inserted (now (m .entry)) place (index .value) (now (name .entry)) (now (value .entry))) (index .value) ⌝ }
 {
-    table::insert::insert(m, place, index, name, value);
+    table_insert::insert::insert(m, place, index, name, value);
     unrefer(m, index);
 }
 

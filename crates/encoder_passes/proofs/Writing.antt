@@ -25,8 +25,8 @@ use Rattle.encoder_fields.specs.Refer.{AllHeld, entered, enteredBy, InTable}
 use Rattle.encoder_fields.specs.declared.choice.Choice.{Choice}
 use Rattle.encoder_fields.proofs.Chosen.{choose-fine, all-held}
 use Rattle.encoder_fields.proofs.Fields.{Left, left-all, left-none, counted-all, counted-more, room-more, capped-low, capped-high}
-use Rattle.encoder_passes.proofs.Entering.{entered-none, entered-length, entered-more, held-low}
-use Rattle.encoder_passes.proofs.Choices.{entered-forms, entered-chooses}
+use Rattle.encoder_references.proofs.Entering.{entered-none, entered-length, entered-more, held-low}
+use Rattle.encoder_references.proofs.Choices.{entered-forms, entered-chooses}
 
 -- ---- with the mode: memory and output are changed only where `write` says so
 

@@ -1,3 +1,2 @@
-// The host's field list: read, measured and written.
+// The host's field list: read and measured.
 pub mod read;
-pub mod write;

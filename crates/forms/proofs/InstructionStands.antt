@@ -10,7 +10,7 @@ use Rattle.memory.proofs.Order.{split}
 use Rattle.integers.specs.Integer.{readInt, intWire}
 use Rattle.wire.specs.Text.{readString}
 use Rattle.wire.specs.Name.{readName}
-use Rattle.wire.specs.StreamList.{readList}
+use Rattle.stream_lists.specs.StreamList.{readList}
 use Rattle.integers.specs.declared.number.TableIndex.{TableIndex}
 use Rattle.integers.specs.declared.integer.IntRead.{IntRead}
 use Rattle.integers.specs.declared.integer.IntRead.the-variants.{Value, Refused as IntRefused}
@@ -18,8 +18,8 @@ use Rattle.wire.specs.declared.text.StringRead.{StringRead}
 use Rattle.wire.specs.declared.text.StringRead.the-variants.{Found as StringFound, Refused as StringRefused}
 use Rattle.wire.specs.declared.name.NameRead.{NameRead}
 use Rattle.wire.specs.declared.name.NameRead.the-variants.{Found as NameFound, Refused as NameRefused}
-use Rattle.wire.specs.declared.stream_list.ListRead.{ListRead}
-use Rattle.wire.specs.declared.stream_list.ListRead.the-variants.{Found as ListFound, Refused as ListRefused}
+use Rattle.stream_lists.specs.declared.stream_list.ListRead.{ListRead}
+use Rattle.stream_lists.specs.declared.stream_list.ListRead.the-variants.{Found as ListFound, Refused as ListRefused}
 use Rattle.instructions.specs.Reading.{readIndex, readInsert, readDelete, readAcknowledgement, readForDecoder, readForEncoder, instructionOf}
 use Rattle.instructions.specs.declared.read.IndexRead.{IndexRead}
 use Rattle.instructions.specs.declared.read.IndexRead.the-variants.{Index, Refused as IndexRefused}

@@ -8,8 +8,8 @@ use lib.ListN.{length}
 use Rattle.memory.specs.Bytes.{Small}
 use Rattle.memory.proofs.Order.{split}
 use Rattle.integers.specs.Integer.{readInt, intWire}
-use Rattle.wire.specs.StreamList.{readDelta, readDeltas, streamsFrom, listOf, readList, deltasWire, listWire}
-use Rattle.wire.proofs.ListLaws.{
+use Rattle.stream_lists.specs.StreamList.{readDelta, readDeltas, streamsFrom, listOf, readList, deltasWire, listWire}
+use Rattle.stream_lists.proofs.ListLaws.{
   delta-refused,
   delta-zero,
   delta-over,
@@ -26,18 +26,18 @@ use Rattle.wire.proofs.ListLaws.{
   list-bad,
   list-found,
 }
-use Rattle.wire.proofs.ListBounds.{deltas-good}
+use Rattle.stream_lists.proofs.ListBounds.{deltas-good}
 use Rattle.integers.specs.declared.integer.IntRead.{IntRead}
 use Rattle.integers.specs.declared.integer.IntRead.the-variants.{Value, Refused as IntRefused}
 use Rattle.integers.specs.declared.integer.WireInt.{WireInt}
 use Rattle.integers.specs.declared.number.StreamNumber.{StreamNumber}
-use Rattle.wire.specs.declared.stream_list.ListPlace.{ListPlace}
-use Rattle.wire.specs.declared.stream_list.DeltaRead.{DeltaRead}
-use Rattle.wire.specs.declared.stream_list.DeltaRead.the-variants.{Stream, Refused as DeltaRefused}
-use Rattle.wire.specs.declared.stream_list.DeltasRead.{DeltasRead}
-use Rattle.wire.specs.declared.stream_list.DeltasRead.the-variants.{End, Refused as DeltasRefused}
-use Rattle.wire.specs.declared.stream_list.ListRead.{ListRead}
-use Rattle.wire.specs.declared.stream_list.ListRead.the-variants.{Found, Refused}
+use Rattle.stream_lists.specs.declared.stream_list.ListPlace.{ListPlace}
+use Rattle.stream_lists.specs.declared.stream_list.DeltaRead.{DeltaRead}
+use Rattle.stream_lists.specs.declared.stream_list.DeltaRead.the-variants.{Stream, Refused as DeltaRefused}
+use Rattle.stream_lists.specs.declared.stream_list.DeltasRead.{DeltasRead}
+use Rattle.stream_lists.specs.declared.stream_list.DeltasRead.the-variants.{End, Refused as DeltasRefused}
+use Rattle.stream_lists.specs.declared.stream_list.ListRead.{ListRead}
+use Rattle.stream_lists.specs.declared.stream_list.ListRead.the-variants.{Found, Refused}
 use Rattle.forms.proofs.Stands.{Stands, stands-join, int-there}
 
 module _ (s : List ℕ) (small : Small s) where

@@ -5,7 +5,7 @@ use mathlib.Core.List.{[], _∷_}
 use Rattle.integers.specs.Integer.{readInt, groups}
 use Rattle.wire.specs.Text.{textAt, readString, stringAfter, stringEnd}
 use Rattle.wire.specs.Name.{readName}
-use Rattle.wire.specs.StreamList.{readDelta, readDeltas, readList}
+use Rattle.stream_lists.specs.StreamList.{readDelta, readDeltas, readList}
 use Rattle.instructions.specs.Reading.{readIndex, readInsert, readDelete, readAcknowledgement, readForDecoder, readForEncoder}
 use Rattle.instructions.specs.declared.read.InstructionRead.the-variants.{Refused}
 use Rattle.blocks.specs.Reading.{readIndexed, readLiteral, readRepresentation, refused, blockFrom, readBlock}

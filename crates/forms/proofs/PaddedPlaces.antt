@@ -6,7 +6,7 @@ use mathlib.Core.List.{List}
 use Rattle.integers.specs.Integer.{PaddedInt}
 use Rattle.integers.proofs.Padding.{padded-refused}
 use Rattle.wire.proofs.Strings.{string-refused, name-refused}
-use Rattle.wire.proofs.ListLaws.{delta-refused, list-refused, count-refused}
+use Rattle.stream_lists.proofs.ListLaws.{delta-refused, list-refused, count-refused}
 use Rattle.instructions.proofs.Equations.{index-refused}
 use Rattle.blocks.proofs.Equations.{indexed-refused}
 use Rattle.forms.specs.Claim.{PaddedPlaces}

@@ -8,11 +8,11 @@ use Rattle.integers.specs.Integer.{largest, value, readInt, PaddedInt, IntForm,
 use Rattle.integers.specs.declared.integer.IntRead.the-variants.{Refused as IntRefused}
 use Rattle.wire.specs.Text.{readString}
 use Rattle.wire.specs.Name.{readName}
-use Rattle.wire.specs.StreamList.{horizonLimit, readDelta, readList}
+use Rattle.stream_lists.specs.StreamList.{horizonLimit, readDelta, readList}
 use Rattle.wire.specs.declared.text.StringRead.the-variants.{Refused as StringRefused}
 use Rattle.wire.specs.declared.name.NameRead.the-variants.{Refused as NameRefused}
-use Rattle.wire.specs.declared.stream_list.DeltaRead.the-variants.{Refused as DeltaRefused}
-use Rattle.wire.specs.declared.stream_list.ListRead.the-variants.{Refused as ListRefused}
+use Rattle.stream_lists.specs.declared.stream_list.DeltaRead.the-variants.{Refused as DeltaRefused}
+use Rattle.stream_lists.specs.declared.stream_list.ListRead.the-variants.{Refused as ListRefused}
 use Rattle.instructions.specs.Instruction.{Instruction, acknowledge, FineIndex, FineInstruction, Manages, instructionWire}
 use Rattle.instructions.specs.Reading.{readIndex, readForDecoder, readForEncoder, instructionOf}
 use Rattle.instructions.specs.declared.read.IndexRead.the-variants.{Refused as IndexRefused}

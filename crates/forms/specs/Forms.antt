@@ -6,7 +6,7 @@ use lib.ListN.{length}
 use Rattle.integers.specs.Integer.{intWire}
 use Rattle.huffman.specs.Packing.{pack, packedSize}
 use Rattle.wire.specs.Name.{Name, indexed as by-index, literal as by-bytes}
-use Rattle.wire.specs.StreamList.{listWire}
+use Rattle.stream_lists.specs.StreamList.{listWire}
 use Rattle.instructions.specs.Instruction.{Instruction, insert, delete, acknowledge}
 use Rattle.blocks.specs.Representation.{Representation, indexed, literal}
 

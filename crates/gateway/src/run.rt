@@ -1,9 +1,9 @@
 // One recording: its lines, one after another, on two memories.
 ghost use lib.ListN.{length};
 ghost use Rattle.text_io.specs.Lines.{Inside};
-use link_state::ends::more;
-use link_state::notes::NOTES;
-use machines::falls::RECORDS;
+use falling_hours::falls::RECORDS;
+use link_events::ends::more;
+use link_notes::notes::NOTES;
 use recorded_lines::LINE_BYTES;
 use recorded_lines::Ran;
 use recorded_lines::run_next;

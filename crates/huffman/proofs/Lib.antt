@@ -5,8 +5,6 @@ pub mod Prefixes
 pub mod Standings
 pub mod Pushing
 pub mod Packs
-pub mod Sizes
-pub mod Writing
 pub mod Unpacks
 pub mod RoundTrip
 pub mod Vectors

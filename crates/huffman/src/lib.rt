@@ -1,5 +1,2 @@
-// The code of RFC 7541, Appendix B, and strings packed by it.
-pub mod bits;
+// The code of RFC 7541, Appendix B.
 pub mod code;
-pub mod code_sizes;
-pub mod pack;

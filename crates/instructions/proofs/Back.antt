@@ -10,11 +10,11 @@ use Rattle.memory.proofs.Places.{has-left, has-right, has-front}
 use Rattle.integers.specs.Integer.{intWire}
 use Rattle.wire.specs.Text.{stringWire}
 use Rattle.wire.specs.Name.{Name, nameWire}
-use Rattle.wire.specs.StreamList.{StreamList, listWire}
+use Rattle.stream_lists.specs.StreamList.{StreamList, listWire}
 use Rattle.integers.proofs.Back.{int-back}
 use Rattle.integers.proofs.Lengths.{first-byte}
 use Rattle.wire.proofs.TextBack.{string-back, name-back}
-use Rattle.wire.proofs.ListBack.{list-back}
+use Rattle.stream_lists.proofs.ListBack.{list-back}
 use Rattle.instructions.specs.Instruction.{Instruction, insert, delete, acknowledge, FineIndex, FineInstruction, instructionWire, Manages}
 use Rattle.instructions.specs.Reading.{readIndex, readForDecoder, readForEncoder, instructionOf}
 use Rattle.instructions.specs.declared.read.IndexRead.the-variants.{Index}

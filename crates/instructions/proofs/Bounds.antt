@@ -9,7 +9,7 @@ use Rattle.memory.proofs.Order.{split}
 use Rattle.integers.specs.Integer.{readInt}
 use Rattle.wire.specs.Text.{readString}
 use Rattle.wire.specs.Name.{FineName, nameOf, readName, GoodName}
-use Rattle.wire.specs.StreamList.{readList, listOf, InList}
+use Rattle.stream_lists.specs.StreamList.{readList, listOf, InList}
 use Rattle.integers.specs.declared.number.TableIndex.{TableIndex}
 use Rattle.integers.specs.declared.integer.IntRead.{IntRead}
 use Rattle.integers.specs.declared.integer.IntRead.the-variants.{Value, Refused as IntRefused}
@@ -19,12 +19,12 @@ use Rattle.wire.specs.declared.name.NamePlace.{NamePlace}
 use Rattle.wire.specs.declared.name.NamePlace.the-variants.{Index as NameIndex, Text}
 use Rattle.wire.specs.declared.name.NameRead.{NameRead}
 use Rattle.wire.specs.declared.name.NameRead.the-variants.{Found as NameFound, Refused as NameRefused}
-use Rattle.wire.specs.declared.stream_list.ListPlace.{ListPlace}
-use Rattle.wire.specs.declared.stream_list.ListRead.{ListRead}
-use Rattle.wire.specs.declared.stream_list.ListRead.the-variants.{Found as ListFound, Refused as ListRefused}
+use Rattle.stream_lists.specs.declared.stream_list.ListPlace.{ListPlace}
+use Rattle.stream_lists.specs.declared.stream_list.ListRead.{ListRead}
+use Rattle.stream_lists.specs.declared.stream_list.ListRead.the-variants.{Found as ListFound, Refused as ListRefused}
 use Rattle.integers.proofs.Bounds.{int-good}
 use Rattle.wire.proofs.TextBounds.{string-good, string-size, name-good}
-use Rattle.wire.proofs.ListBounds.{ListGood, list-good}
+use Rattle.stream_lists.proofs.ListBounds.{ListGood, list-good}
 use Rattle.instructions.specs.Instruction.{FineIndex, FineList, FineInstruction, Manages}
 use Rattle.instructions.specs.Reading.{readIndex, readInsert, readDelete, readAcknowledgement, readForDecoder, readForEncoder, instructionOf, InBytes}
 use Rattle.instructions.specs.declared.read.IndexRead.{IndexRead}

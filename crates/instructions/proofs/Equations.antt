@@ -9,7 +9,7 @@ use borrow.Author.Tests.{lt-ltb, le-ltb, le-leb, lt-leb}
 use Rattle.integers.specs.Integer.{readInt}
 use Rattle.wire.specs.Text.{readString}
 use Rattle.wire.specs.Name.{readName}
-use Rattle.wire.specs.StreamList.{readList}
+use Rattle.stream_lists.specs.StreamList.{readList}
 use Rattle.integers.specs.declared.number.TableIndex.{TableIndex}
 use Rattle.integers.specs.declared.integer.WireInt.{WireInt}
 use Rattle.integers.specs.declared.integer.IntRead.{IntRead}
@@ -20,9 +20,9 @@ use Rattle.wire.specs.declared.text.StringRead.the-variants.{Found as StringFou
 use Rattle.wire.specs.declared.name.NamePlace.{NamePlace}
 use Rattle.wire.specs.declared.name.NameRead.{NameRead}
 use Rattle.wire.specs.declared.name.NameRead.the-variants.{Found as NameFound, Refused as NameRefused}
-use Rattle.wire.specs.declared.stream_list.ListPlace.{ListPlace}
-use Rattle.wire.specs.declared.stream_list.ListRead.{ListRead}
-use Rattle.wire.specs.declared.stream_list.ListRead.the-variants.{Found as ListFound, Refused as ListRefused}
+use Rattle.stream_lists.specs.declared.stream_list.ListPlace.{ListPlace}
+use Rattle.stream_lists.specs.declared.stream_list.ListRead.{ListRead}
+use Rattle.stream_lists.specs.declared.stream_list.ListRead.the-variants.{Found as ListFound, Refused as ListRefused}
 use Rattle.instructions.specs.Reading.{readIndex, readInsert, readDelete, readAcknowledgement, readForDecoder, readForEncoder}
 use Rattle.instructions.specs.declared.read.IndexRead.{IndexRead}
 use Rattle.instructions.specs.declared.read.IndexRead.the-variants.{Index, Refused as IndexRefused}

@@ -9,13 +9,13 @@ use lib.Dec.{ltb, leb}
 use Rattle.integers.specs.Integer.{readInt}
 use Rattle.wire.specs.Text.{readString, valueLimit}
 use Rattle.wire.specs.Name.{readName}
-use Rattle.wire.specs.StreamList.{listOf, readList, InList}
+use Rattle.stream_lists.specs.StreamList.{listOf, readList, InList}
 use Rattle.integers.specs.declared.number.TableIndex.{TableIndex}
-use Rattle.wire.specs.declared.stream_list.ListPlace.{ListPlace}
+use Rattle.stream_lists.specs.declared.stream_list.ListPlace.{ListPlace}
 use Rattle.integers.proofs.Kept.{Kept, kept-same, kept-need, kept-pick, kept-inside, kept-on-int, passed-on, byte-kept, int-kept}
 use Rattle.wire.proofs.TextBounds.{string-bytes-kept, name-of-kept}
 use Rattle.wire.proofs.TextKept.{kept-on-string, kept-on-name, string-kept, name-kept}
-use Rattle.wire.proofs.ListKept.{kept-on-list, list-kept, streams-kept}
+use Rattle.stream_lists.proofs.ListKept.{kept-on-list, list-kept, streams-kept}
 use Rattle.instructions.specs.Instruction.{insert, delete}
 use Rattle.instructions.specs.Reading.{indexAnswer, instructionAnswer, onIndex, onInstruction, readIndex, readInsert, readDelete, readAcknowledgement, readForDecoder, readForEncoder, instructionOf, InBytes}
 use Rattle.instructions.specs.declared.read.IndexRead.{IndexRead}

@@ -10,9 +10,9 @@ use Rattle.integers.specs.Integer.{intWire}
 use Rattle.integers.proofs.Lengths.{int-one, int-within, int-length, int-bytes-small}
 use Rattle.wire.specs.Text.{stringWire}
 use Rattle.wire.specs.Name.{Name, FineName, nameWire}
-use Rattle.wire.specs.StreamList.{StreamList, Fits, deltasWire, listWire}
+use Rattle.stream_lists.specs.StreamList.{StreamList, Fits, deltasWire, listWire}
 use Rattle.wire.proofs.TextWriting.{string-within, string-small, index-wire, literal-length-wire}
-use Rattle.wire.proofs.ListBack.{list-size}
+use Rattle.stream_lists.proofs.ListBack.{list-size}
 use Rattle.instructions.specs.Instruction.{Instruction, insert, delete, acknowledge, FineList, FineInstruction, instructionWire}
 use Rattle.instructions.proofs.Writing.{acknowledge-wire, insert-length, delete-length}
 

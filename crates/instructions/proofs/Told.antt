@@ -10,8 +10,9 @@ use Rattle.integers.specs.declared.number.TableIndex.{TableIndex}
 use Rattle.integers.proofs.Told.{Told, One, covers, wider, intRefusals, int-told, told-on-int}
 use Rattle.wire.specs.Text.{readString}
 use Rattle.wire.specs.Name.{readName}
-use Rattle.wire.specs.StreamList.{readList}
-use Rattle.wire.proofs.Told.{textRefusals, listRefusals, string-told, name-told, list-told, told-on-string, told-on-name, told-on-list}
+use Rattle.stream_lists.specs.StreamList.{readList}
+use Rattle.wire.proofs.Told.{textRefusals, string-told, name-told, told-on-string, told-on-name}
+use Rattle.stream_lists.proofs.Told.{listRefusals, list-told, told-on-list}
 use Rattle.instructions.specs.Reading.{
   onIndex,
   readIndex,

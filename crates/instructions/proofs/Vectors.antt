@@ -9,7 +9,7 @@ use Rattle.huffman.specs.Bits.{bitsOf, valueOf, bytesOf}
 use Rattle.huffman.specs.Packing.{codeBits, codesOf, codesSize, packedSize, pack}
 use Rattle.wire.specs.Text.{plainPlace, textAt, stringBytes, stringAfter, stringEnd, readString, allBytes, packs, stringWire}
 use Rattle.wire.specs.Name.{Name, readName, nameWire}
-use Rattle.wire.specs.StreamList.{StreamList, readDelta, readDeltas, streamsFrom, readList, deltasWire, listWire}
+use Rattle.stream_lists.specs.StreamList.{StreamList, readDelta, readDeltas, streamsFrom, readList, deltasWire, listWire}
 use Rattle.wire.specs.declared.name.NamePlace.the-variants.{Text}
 use Rattle.instructions.specs.Instruction.{Instruction, insert, delete, acknowledge, instructionWire}
 use Rattle.instructions.specs.Reading.{

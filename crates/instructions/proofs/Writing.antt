@@ -8,7 +8,7 @@ use Rattle.memory.specs.Bytes.{overlay}
 use Rattle.integers.specs.Integer.{intWire}
 use Rattle.wire.specs.Text.{stringWire}
 use Rattle.wire.specs.Name.{Name, nameWire}
-use Rattle.wire.specs.StreamList.{listWire}
+use Rattle.stream_lists.specs.StreamList.{listWire}
 use Rattle.wire.proofs.TextWriting.{write-then}
 use Rattle.instructions.specs.Instruction.{insert, delete, acknowledge, instructionWire}
 

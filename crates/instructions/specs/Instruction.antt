@@ -5,7 +5,7 @@ use lib.ListN.{length}
 use Rattle.integers.specs.Integer.{largest, intWire}
 use Rattle.wire.specs.Text.{valueLimit, stringWire}
 use Rattle.wire.specs.Name.{Name, FineName, nameWire}
-use Rattle.wire.specs.StreamList.{StreamList, horizonLimit, countLimit, Fits, listWire}
+use Rattle.stream_lists.specs.StreamList.{StreamList, horizonLimit, countLimit, Fits, listWire}
 
 pub data Instruction : Type 0 where
   -- "new index, name .., value string"

@@ -8,7 +8,7 @@ use Rattle.integers.specs.Answers.{Answer, done, refusal, truncated, not-allowe
 use Rattle.integers.specs.Integer.{readInt, onInt}
 use Rattle.wire.specs.Text.{readString, onString, stringBytes, valueLimit, InString, stringLength}
 use Rattle.wire.specs.Name.{readName, onName, nameOf, GoodName}
-use Rattle.wire.specs.StreamList.{readList, onList, listOf, InList}
+use Rattle.stream_lists.specs.StreamList.{readList, onList, listOf, InList}
 use Rattle.integers.specs.declared.number.TableIndex.{TableIndex}
 use Rattle.instructions.specs.Instruction.{Instruction, insert, delete, acknowledge}
 use Rattle.instructions.specs.declared.read.IndexRead.{IndexRead}

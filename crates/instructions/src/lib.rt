@@ -1,3 +1,2 @@
-// Instructions of the management stream, and the acknowledgements that come back: read and written.
+// Instructions of the management stream, and the acknowledgements that come back, read.
 pub mod read;
-pub mod write;

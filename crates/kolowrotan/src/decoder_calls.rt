@@ -2,12 +2,12 @@
 ghost use mathlib.Core.Path.{_≡_};
 ghost use Rattle.reply.specs.Reply.{joined};
 ghost use Rattle.decoder.specs.Calls.{startCall, readCall, blockCall, overCall, endedCall, holdCall, collectCall};
-use decoder::ended::ended;
-use decoder::enquiry::enquire;
-use decoder::over::over;
 use decoder::start::start;
 use decoder_block::block::block;
 use decoder_collect::collect::collect;
+use decoder_ended::ended::ended;
+use decoder_ended::over::over;
+use decoder_enquiry::enquiry::enquire;
 use decoder_read::read::read;
 
 #[no_mangle]

@@ -10,7 +10,7 @@ use Rattle.memory.specs.Numbers.{numberBytes}
 use Rattle.memory.proofs.Overlay.{small-overlay, small-cons, small-append, small-part}
 use Rattle.memory.proofs.Numbers.{small-numberBytes}
 use Rattle.marks.specs.Marks.{wordOf, wordsBytes}
-use Rattle.wire.specs.StreamList.{StreamList}
+use Rattle.stream_lists.specs.StreamList.{StreamList}
 use Rattle.statics.specs.Table.{Entry}
 use Rattle.model.specs.Parts.{nontrailer, trailer, Marks, Delete}
 use Rattle.model.specs.Decoder.{Held, Decoder}

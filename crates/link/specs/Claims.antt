@@ -11,7 +11,7 @@ use lib.Dec.{eqb}
 use Rattle.memory.specs.Choice.{pick}
 use Rattle.memory.specs.Bytes.{Small, overlay}
 use Rattle.integers.specs.Answers.{done, no-room}
-use Rattle.wire.specs.StreamList.{names}
+use Rattle.stream_lists.specs.StreamList.{names}
 use Rattle.instructions.specs.Instruction.{Instruction, acknowledge, FineIndex, FineInstruction, Manages, instructionWire}
 use Rattle.blocks.specs.Representation.{Representation}
 use Rattle.blocks.specs.Reading.{block, readBlock}

@@ -8,7 +8,7 @@ use Rattle.huffman.specs.Bits.{bitsOf, valueOf, bits, bytesOf, begins}
 use Rattle.huffman.specs.Packing.{codeBits, codesOf, codesSize, packedSize, pack, standingIn, standing, padding, unpackBits, unpack}
 use Rattle.wire.specs.Text.{textAt, stringBytes, stringAfter, stringEnd, readString, allBytes, packs, stringWire}
 use Rattle.wire.specs.Name.{readName, nameWire}
-use Rattle.wire.specs.StreamList.{readDelta, readDeltas, streamsFrom, readList, names, listed, listWire, deltasWire}
+use Rattle.stream_lists.specs.StreamList.{readDelta, readDeltas, streamsFrom, readList, names, listed, listWire, deltasWire}
 use Rattle.statics.specs.Table.{entries, entryAt}
 use Rattle.static_search.specs.Search.{hasName, hasBoth, lowestStatic as lowest-static, lowestName, lowestBoth}
 use Rattle.fields.specs.Form.{textForm, fieldForm, listForm}

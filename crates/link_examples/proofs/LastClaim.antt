@@ -16,7 +16,7 @@ use Rattle.memory.specs.Bytes.{Small}
 use Rattle.memory.specs.Compare.{same}
 use Rattle.memory.proofs.Order.{need-true, not-both}
 use Rattle.integers.specs.Answers.{no-room}
-use Rattle.wire.specs.StreamList.{names, listed}
+use Rattle.stream_lists.specs.StreamList.{names, listed}
 use Rattle.instructions.specs.Instruction.{acknowledge, instructionWire}
 use Rattle.instructions.proofs.Lengths.{acknowledge-length}
 use Rattle.model.specs.Table.{look, cut, first}

@@ -3,7 +3,7 @@ use mathlib.Core.Path.{_≡_}
 use mathlib.Core.Bool.{Bool, true, false}
 use Prim.Native.Nat.{ℕ}
 use borrow.Author.Tests.{eq-eqb, ne-eqb}
-use Rattle.link_state.specs.Notes.{asWritten}
+use Rattle.link_notes.specs.Notes.{asWritten}
 use Rattle.link_state.specs.declared.doubt.Doubt.{Doubt}
 use Rattle.link_state.specs.declared.doubt.Doubt.the-variants.{Nothing, Broken, NotAsWritten}
 use Rattle.link_state.specs.Doubts.{onLink, onTable}

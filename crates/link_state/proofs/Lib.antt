@@ -1,5 +1,2 @@
--- Laws of the notes and sums of a link, and of the doubts about its hours.
-pub mod Clearing
+-- Laws of the doubts about a link's hours.
 pub mod Doubting
-pub mod Places
-pub mod Summing

@@ -4,10 +4,10 @@ use mathlib.Core.List.{List, []}
 use Prim.Native.Nat.{ℕ}
 use lib.Dec.{eqb}
 use Rattle.memory.specs.Choice.{pick}
-use Rattle.link_state.specs.declared.ends.Ends.{Ends}
-use Rattle.link_state.specs.Ends.{brokenLine}
-use Rattle.link_state.specs.Notes.{placeOf, halfOf, isNoted, asWritten}
-use Rattle.link_state.specs.Sums.{sumOf}
+use Rattle.link_events.specs.declared.ends.Ends.{Ends}
+use Rattle.link_events.specs.Ends.{brokenLine}
+use Rattle.link_notes.specs.Notes.{placeOf, halfOf, isNoted, asWritten}
+use Rattle.link_notes.specs.Sums.{sumOf}
 use Rattle.link_state.specs.declared.doubt.Doubt.{Doubt}
 use Rattle.link_state.specs.declared.doubt.Doubt.the-variants.{Nothing, Broken, NotAsWritten}
 

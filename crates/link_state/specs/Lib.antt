@@ -1,6 +1,2 @@
--- What the gateway knows of a link.
+-- What speaks against telling a message's hours.
 pub mod Doubts
-pub mod Ends
-pub mod Events
-pub mod Notes
-pub mod Sums

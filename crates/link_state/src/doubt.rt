@@ -1,11 +1,11 @@
 // Whether the hours of a message can be told at all, before its fields are looked at.
 ghost use mathlib.Core.Path.{_≡_};
 ghost use Rattle.link_state.specs.Doubts.{doubtOf};
-use crate::ends::Ends;
-use crate::notes::NOTES;
-use crate::sums::block_sum;
 use crate::written::as_written;
 use crate::written::is_written;
+use link_events::ends::Ends;
+use link_notes::notes::NOTES;
+use link_notes::sums::block_sum;
 
 // Why the hours of a message cannot be told before its fields are looked at: the link is broken, at this line, or the block is not as it was
 // written for this table.

@@ -1,14 +1,14 @@
 // The blocks that were written: four sums of each part for each of two tables of the encoder, and as many of their bytes alone behind all others.
 ghost use mathlib.Core.Path.{_≡_};
 ghost use Prim.Native.Nat.{_+_, _<_};
-ghost use Rattle.link_state.specs.Notes.{placeOf, halfOf, cleared, pushed, isOther, hasOther, noted, isNoted, asWritten};
-use crate::notes::KEPT;
-use crate::notes::NOTES;
-use crate::notes::Place;
-use crate::notes::SUMS;
-use crate::notes::clear;
-use crate::notes::has_sum;
-use crate::notes::place_of;
+ghost use Rattle.link_notes.specs.Notes.{placeOf, halfOf, cleared, pushed, isOther, hasOther, noted, isNoted, asWritten};
+use link_notes::notes::KEPT;
+use link_notes::notes::NOTES;
+use link_notes::notes::Place;
+use link_notes::notes::SUMS;
+use link_notes::notes::clear;
+use link_notes::notes::has_sum;
+use link_notes::notes::place_of;
 
 // Where the sums of bytes alone begin.
 const BYTES: usize = 98_304;

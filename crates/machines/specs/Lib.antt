@@ -1,4 +1,2 @@
--- Where machines stand, and hours that fall.
-pub mod Falls
+-- Where machines are kept.
 pub mod Keep
-pub mod Standing

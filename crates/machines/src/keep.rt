@@ -4,14 +4,14 @@ ghost use mathlib.Core.Bool.{true};
 ghost use mathlib.Core.Path.{_≡_};
 ghost use Prim.Native.Nat.{_<_};
 ghost use Rattle.machines.specs.Keep.{Kept};
-use crate::falls::Fall;
-use crate::falls::RECORDS;
-use crate::falls::STREAMS;
-use crate::falls::WORD;
-use crate::falls::fall_at;
 use crate::name::Name;
-use crate::standing::Standing;
-use crate::standing::max;
+use falling_hours::falls::Fall;
+use falling_hours::falls::RECORDS;
+use falling_hours::falls::STREAMS;
+use falling_hours::falls::WORD;
+use falling_hours::falls::fall_at;
+use falling_hours::standing::Standing;
+use falling_hours::standing::max;
 
 // How many machines are kept.
 pub const MACHINES: usize = 1_024;

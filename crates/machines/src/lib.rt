@@ -1,6 +1,3 @@
-// The machines whose hours were told (docs/RECORDINGS.md, "Hours"): where each stands, and the reports of the decoder's table, by which
-// hours that fall are found.
-pub mod falls;
+// The machines whose hours were told (docs/RECORDINGS.md, "Hours"), each with where it stands, and the reports of the decoder's table.
 pub mod keep;
 pub mod name;
-pub mod standing;

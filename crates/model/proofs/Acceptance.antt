@@ -8,7 +8,7 @@ use mathlib.Core.Option.{none, some}
 use mathlib.Core.List.{List, [], _∷_, _++_}
 use Rattle.integers.specs.Answers.{done, refusal}
 use Rattle.wire.specs.Name.{indexed as by-index, literal as by-bytes}
-use Rattle.wire.specs.StreamList.{StreamList}
+use Rattle.stream_lists.specs.StreamList.{StreamList}
 use Rattle.statics.specs.Ascii.{bytes}
 use Rattle.fields.specs.Form.{Field}
 use Rattle.instructions.specs.Instruction.{Instruction, insert, delete, acknowledge}

@@ -7,7 +7,7 @@ use mathlib.Core.List.{List, [], _∷_, _++_}
 use lib.ListN.{length}
 use Rattle.integers.specs.Answers.{Answer}
 use Rattle.wire.specs.Name.{literal as by-bytes}
-use Rattle.wire.specs.StreamList.{StreamList}
+use Rattle.stream_lists.specs.StreamList.{StreamList}
 use Rattle.statics.specs.Ascii.{bytes}
 use Rattle.fields.specs.Form.{Field}
 use Rattle.instructions.specs.Instruction.{Instruction, insert, delete, acknowledge, instructionWire}

@@ -9,7 +9,7 @@ use Rattle.huffman.specs.Bits.{bitsOf, valueOf, bytesOf}
 use Rattle.huffman.specs.Packing.{codeBits, codesOf, codesSize, packedSize, pack}
 use Rattle.wire.specs.Text.{allBytes, packs, stringWire}
 use Rattle.wire.specs.Name.{nameWire}
-use Rattle.wire.specs.StreamList.{names, listed, listWire, deltasWire}
+use Rattle.stream_lists.specs.StreamList.{names, listed, listWire, deltasWire}
 use Rattle.statics.specs.Table.{entries, entryAt}
 use Rattle.static_search.specs.Search.{hasName, hasBoth, lowestStatic as lowest-static, lowestName, lowestBoth}
 use Rattle.fields.specs.Form.{textForm, fieldForm, listForm}

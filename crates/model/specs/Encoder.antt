@@ -11,7 +11,7 @@ use Rattle.memory.specs.Compare.{same}
 use Rattle.integers.specs.Answers.{not-allowed, over-limit, vacant, under-deletion, not-under-deletion, out-of-turn, no-room, too-long}
 use Rattle.integers.specs.Integer.{largest}
 use Rattle.wire.specs.Name.{Name, indexed as by-index, literal as by-bytes}
-use Rattle.wire.specs.StreamList.{StreamList}
+use Rattle.stream_lists.specs.StreamList.{StreamList}
 use Rattle.statics.specs.Table.{Entry}
 use Rattle.static_search.specs.Search.{findName, findBoth}
 use Rattle.static_search.specs.declared.search.StaticFound.{StaticFound}

@@ -4,7 +4,7 @@ use mathlib.Core.Bool.{Bool, true, false, not, _&&_, _||_}
 use mathlib.Core.Option.{Option, none, some}
 use lib.Dec.{eqb}
 use Rattle.memory.specs.Choice.{pick}
-use Rattle.wire.specs.StreamList.{StreamList, names}
+use Rattle.stream_lists.specs.StreamList.{StreamList, names}
 
 -- "Each stream has a non-trailer part and a trailer part"
 pub data Part : Type 0 where

@@ -11,7 +11,7 @@ use lib.Dec.{ltb, eqb}
 use borrow.Author.Tests.{ltb-true, lt-ltb, eqb-true, eq-eqb}
 use Rattle.memory.specs.Choice.{pick}
 use Rattle.memory.proofs.Order.{split, either, pick-both, not-both}
-use Rattle.wire.specs.StreamList.{StreamList, listed, names}
+use Rattle.stream_lists.specs.StreamList.{StreamList, listed, names}
 use Rattle.statics.specs.Table.{Entry}
 use Rattle.instructions.specs.Instruction.{FineList}
 use Rattle.model.specs.Table.{size, look, cut}

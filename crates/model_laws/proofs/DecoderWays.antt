@@ -13,7 +13,7 @@ use Rattle.integers.specs.Answers.{Answer, refusal, waits, not-allowed, held, o
 use Rattle.integers.specs.Answers.{no-room}
 use Rattle.integers.specs.Integer.{largest}
 use Rattle.wire.specs.Name.{Name}
-use Rattle.wire.specs.StreamList.{StreamList}
+use Rattle.stream_lists.specs.StreamList.{StreamList}
 use Rattle.fields.specs.Form.{Field, listForm}
 use Rattle.instructions.specs.Instruction.{insert, delete, acknowledge, instructionWire}
 use Rattle.blocks.specs.Representation.{Representation}

@@ -11,7 +11,7 @@ use lib.Dec.{eqb, ltb}
 use borrow.Author.Tests.{eqb-true, eq-eqb, ltb-true, not-true, not-false}
 use Rattle.memory.specs.Choice.{pick}
 use Rattle.memory.proofs.Order.{split, either, pick-both, pick-true, not-both}
-use Rattle.wire.specs.StreamList.{StreamList, Fits, listed, names}
+use Rattle.stream_lists.specs.StreamList.{StreamList, Fits, listed, names}
 use Rattle.instructions.specs.Instruction.{FineList}
 use Rattle.model.specs.Parts.{Part, nontrailer, trailer, partOf, partNumber, samePart, Marks, mark, markBoth, blockMarks, inTurn, Delete, namesPart, isOpen}
 use Rattle.model.specs.Parts.{Closing, over, ended, closed, openBelow, streams, isReady}

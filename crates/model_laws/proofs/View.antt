@@ -7,7 +7,7 @@ use mathlib.Core.List.{List, [], _∷_}
 use Rattle.memory.specs.Choice.{pick}
 use Rattle.statics.specs.Table.{Entry, entryAt}
 use Rattle.wire.specs.Name.{Name, indexed as by-index, literal as by-bytes}
-use Rattle.wire.specs.StreamList.{StreamList}
+use Rattle.stream_lists.specs.StreamList.{StreamList}
 use Rattle.instructions.specs.Instruction.{Instruction, insert, delete, acknowledge}
 use Rattle.blocks.specs.Representation.{Representation, indexed, literal}
 use Rattle.blocks.specs.Meaning.{isStatic}

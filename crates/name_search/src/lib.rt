@@ -1,3 +1,2 @@
 // Entries of the header table by name, and by name and value, among those that are not under deletion. Nothing is changed here.
 pub mod names;
-pub mod text;

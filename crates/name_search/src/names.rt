@@ -5,7 +5,6 @@ ghost use lib.ListN.{length};
 ghost use Rattle.state.specs.Layout.{countOf, nameLengthAt};
 ghost use Rattle.table_search.specs.Search.{Ordered, RowStands, rowOf};
 ghost use Rattle.name_search.specs.Names.{servesAt, hasValueAt, servesBothAt, lowestRow, paired};
-use crate::text::stands_at;
 use state::head::count_of;
 use state::layout::ROW_LENGTH;
 use state::layout::ROWS;
@@ -16,6 +15,7 @@ use state::row::name_length_in;
 use state::row::offset_in;
 use state::row::status_in;
 use state::row::value_length_in;
+use text_compare::text::stands_at;
 
 pub enum Sought {
     Row(usize),

@@ -1,4 +1,3 @@
 -- Parts of streams in memory.
 pub mod Turn
 pub mod Close
-pub mod Hold

@@ -1,4 +1,3 @@
-// Parts of streams: which is in turn, what closes them, and which hold an entry under deletion.
+// Parts of streams: which is in turn, and what closes them.
 pub mod close;
-pub mod hold;
 pub mod turn;

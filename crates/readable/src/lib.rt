@@ -7,9 +7,9 @@ use fields::read::FieldPlace;
 use fields::read::FieldRead;
 use fields::read::read_field;
 use reports::report::text_at;
-use reports::shown::Place;
-use reports::shown::place_in;
-use reports::shown::shown_byte;
+use shown_bytes::shown::Place;
+use shown_bytes::shown::place_in;
+use shown_bytes::shown::shown_byte;
 use text_io::print;
 use text_io::print::Text;
 

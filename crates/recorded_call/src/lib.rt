@@ -54,10 +54,10 @@ pub fn perform(
             s,
             output,
         ),
-        Kind::DecoderOver => decoder::over::over(decoder, call.first),
-        Kind::DecoderEnded => decoder::ended::ended(decoder, call.first),
+        Kind::DecoderOver => decoder_ended::over::over(decoder, call.first),
+        Kind::DecoderEnded => decoder_ended::ended::ended(decoder, call.first),
         Kind::DecoderCollect => decoder_collect::collect::collect(decoder, output),
-        Kind::DecoderHold => decoder::enquiry::enquire(decoder, call.first),
+        Kind::DecoderHold => decoder_enquiry::enquiry::enquire(decoder, call.first),
         Kind::EncoderStart => encoder::start::start(encoder, call.first),
         Kind::EncoderInsert => {
             encoder_insert::insert::insert(

@@ -13,7 +13,7 @@ use Rattle.fields.specs.Reading.{FieldListRead, FieldListRead.list, FieldListRe
 use Rattle.fields.specs.declared.read.TextPlace.{TextPlace}
 use Rattle.tokens.specs.declared.NumberRead.{NumberRead}
 use Rattle.tokens.specs.declared.NumberRead.the-variants.{Value, Bad}
-use Rattle.reports.specs.Ascii.{printable, allPrintable}
+use Rattle.shown_bytes.specs.Ascii.{printable, allPrintable}
 use Rattle.reports.specs.Report.{Checked.fine, Checked.fails, Verdict.report, Verdict.no-list, machineName, hoursName, turnsName, valuesOf, isMachine, machineText, numberText, most, smallNumber, onChecked, tenths, judgedFields, judged, told, Within, present, trailerFields, trailerJudged}
 use Rattle.reports.specs.Said.{fieldsIn, under, machineTold, MachineInside, numberTold, combine}
 use Rattle.reports.specs.declared.report.Named.the-variants.{Machine, Hours, Turns}

@@ -1,4 +1,3 @@
--- The laws of `reports`, for its functions' proofs, and what is shown of the form of a byte.
+-- The laws of `reports`, for its functions' proofs.
 pub mod Telling
 pub mod Judging
-pub mod Reading

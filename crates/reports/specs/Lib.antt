@@ -1,5 +1,3 @@
--- What a report says, and how a field is shown.
-pub mod Ascii
+-- What a report says.
 pub mod Report
 pub mod Said
-pub mod Shown

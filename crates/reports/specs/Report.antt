@@ -12,7 +12,7 @@ use Rattle.fields.specs.Reading.{FieldListRead, FieldListRead.list, FieldListRe
 use Rattle.tokens.specs.Numbers.{numberOf}
 use Rattle.tokens.specs.declared.NumberRead.{NumberRead}
 use Rattle.tokens.specs.declared.NumberRead.the-variants.{Value, Bad}
-use Rattle.reports.specs.Ascii.{allPrintable}
+use Rattle.shown_bytes.specs.Ascii.{allPrintable}
 use Rattle.reports.specs.declared.report.Named.{Named}
 use Rattle.reports.specs.declared.report.Named.the-variants.{Machine, Hours, Turns}
 use Rattle.reports.specs.declared.report.Why.{Why}

@@ -1,4 +1,3 @@
-// What a machine reports: which field lists are a report, its hours, and the form in which a byte of a field is shown.
+// What a machine reports: which field lists are a report, and its hours.
 pub mod report;
 mod said;
-pub mod shown;

@@ -1,16 +1,16 @@
 // Which field lists are a machine's report: each of `machine`, `hours` and `turns` stands in it exactly once, in its range.
 ghost use mathlib.Core.Path.{_≡_};
 ghost use Rattle.fields.specs.Reading.{readFieldList};
-ghost use Rattle.reports.specs.Ascii.{allPrintable};
+ghost use Rattle.shown_bytes.specs.Ascii.{allPrintable};
 ghost use Rattle.reports.specs.Report.{machineName, machineText, numberText, isMachine, judged, told, Within, present, valuesOf, trailerJudged};
 ghost use Rattle.reports.specs.Said.{fieldsIn, under, machineTold, MachineInside, numberTold, combine};
 use crate::said::Said;
 use crate::said::look_up;
 pub use crate::said::text_at;
-use crate::shown::printable;
 use fields::read::TextPlace;
 use fields::read::check_list;
 use integers::answer::DONE;
+use shown_bytes::shown::printable;
 use tokens::NumberRead;
 use tokens::number;
 

@@ -3,13 +3,13 @@ ghost use mathlib.Core.Path.{_≡_};
 ghost use mathlib.Core.Bool.{true};
 ghost use Prim.Native.Nat.{ℕ, _≤_};
 ghost use Rattle.wire.specs.Text.{InString};
-ghost use Rattle.wire.specs.StreamList.{horizonLimit};
+ghost use Rattle.stream_lists.specs.StreamList.{horizonLimit};
+use stream_lists::stream_list::DeltaRead;
+use stream_lists::stream_list::HORIZON_LIMIT;
+use stream_lists::stream_list::ListPlace;
+use stream_lists::stream_list::read_delta;
 use unpacking::unpack::unpacked_size;
 use wire::name::NamePlace;
-use wire::stream_list::DeltaRead;
-use wire::stream_list::HORIZON_LIMIT;
-use wire::stream_list::ListPlace;
-use wire::stream_list::read_delta;
 use wire::text::StringPlace;
 
 // The longest string that is shown, and the most bytes that a packed one takes.

@@ -11,9 +11,9 @@ use Rattle.integers.proofs.Writing.{last-group, next-group, int-past-prefix}
 use Rattle.integers.proofs.Lengths.{int-one}
 use Rattle.wire.specs.Text.{wireSize, stringWire}
 use Rattle.wire.specs.Name.{Name, nameWire}
-use Rattle.wire.specs.StreamList.{listWire, deltasWire}
+use Rattle.stream_lists.specs.StreamList.{listWire, deltasWire}
 use Rattle.wire.proofs.TextWriting.{string-length-wire, index-wire, literal-length-wire}
-use Rattle.wire.proofs.ListWriting.{list-length}
+use Rattle.stream_lists.proofs.ListWriting.{list-length}
 use Rattle.instructions.specs.Instruction.{insert, delete, acknowledge, instructionWire}
 use Rattle.instructions.proofs.Writing.{insert-length, delete-length, acknowledge-wire}
 use Rattle.blocks.specs.Representation.{indexed, literal, representationWire}

@@ -6,7 +6,7 @@ use lib.Dec.{eqb}
 use Rattle.memory.specs.Choice.{pick}
 use Rattle.memory.specs.Bytes.{overlay}
 use Rattle.memory.specs.Numbers.{number, numberBytes}
-use Rattle.wire.specs.StreamList.{StreamList}
+use Rattle.stream_lists.specs.StreamList.{StreamList}
 use Rattle.model.specs.Parts.{Delete}
 use Rattle.model.specs.Decoder.{Held, Decoder}
 use Rattle.state.specs.Layout.{

@@ -13,7 +13,7 @@ use Rattle.memory.specs.Numbers.{number, numberBytes}
 use Rattle.memory.proofs.Places.{has-left, has-right, has-join}
 use Rattle.memory.proofs.Numbers.{length-numberBytes, number-bound, number-back, bytes-back}
 use Rattle.memory.proofs.Zeros.{zeros-has, has-zeros}
-use Rattle.wire.specs.StreamList.{StreamList, Fits}
+use Rattle.stream_lists.specs.StreamList.{StreamList, Fits}
 use Rattle.instructions.specs.Instruction.{FineList}
 use Rattle.model.specs.Parts.{Delete}
 use Rattle.model.specs.Decoder.{deleteIndex}

@@ -14,7 +14,7 @@ use Rattle.model.specs.Table.{look}
 use Rattle.model.specs.Parts.{Delete}
 use Rattle.model.specs.Decoder.{Held, heldIndex, deleteIndex, Decoder, heldSize, isSome}
 use Rattle.model_laws.proofs.Tables.{pick-yes, look-index, look-cut}
-use Rattle.parts.specs.Hold.{GoodDelete}
+use Rattle.holds.specs.Hold.{GoodDelete}
 use Rattle.state.specs.Layout.{deletePlace, heldOf, countOf, deleteCount, deleteIndexAt, statusAt}
 use Rattle.state.specs.Rows.{Row, rowsSize}
 use Rattle.state.specs.DecoderState.{deleteAt, deletesOf, deleteBytes, deletesBytes, placeFrom, rowOfHeld, decoderFront}

@@ -18,7 +18,7 @@ use Rattle.state.specs.Forms.{formsDecoder}
 use Rattle.table_search.specs.Search.{Ordered, findFrom}
 use Rattle.table_search.specs.declared.find.Found.the-variants.{At, Vacant}
 use Rattle.parts.specs.Close.{closedBoth, closedBy}
-use Rattle.parts.specs.Hold.{GoodDelete}
+use Rattle.holds.specs.Hold.{GoodDelete}
 use Rattle.table.specs.Changes.{Opening, NamedHere, inserted, Removing, removed, started}
 use Rattle.deletes.specs.Deletes.{appended, Dropping, dropped}
 

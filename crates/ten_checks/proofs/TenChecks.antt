@@ -15,7 +15,7 @@ use Rattle.huffman.specs.Codes.{codes, codeOf}
 use Rattle.huffman.specs.Packing.{codesSize, packedSize}
 use Rattle.wire.specs.Text.{textAt, stringBytes, stringAfter, stringEnd, readString, allBytes, packs, stringWire}
 use Rattle.wire.specs.Name.{readName, nameWire}
-use Rattle.wire.specs.StreamList.{readDelta, readDeltas, streamsFrom, readList, listed, names}
+use Rattle.stream_lists.specs.StreamList.{readDelta, readDeltas, streamsFrom, readList, listed, names}
 use Rattle.statics.specs.Table.{entries, entryAt}
 use Rattle.fields.specs.Form.{textForm, fieldForm, listForm}
 use Rattle.instructions.specs.Instruction.{instructionWire}

@@ -7,7 +7,7 @@ use lib.ListN.{take, replicate}
 use Rattle.memory.specs.Choice.{pick}
 use Rattle.memory.specs.Bytes.{Small}
 use Rattle.integers.specs.Integer.{intWire}
-use Rattle.wire.specs.StreamList.{StreamList, names}
+use Rattle.stream_lists.specs.StreamList.{StreamList, names}
 use Rattle.wire.specs.Name.{literal}
 use Rattle.instructions.specs.Instruction.{Instruction, insert, delete, acknowledge, instructionWire}
 use Rattle.instructions.specs.Reading.{readForDecoder, onInstruction, instructionOf}

@@ -1,17 +1,17 @@
 // The lines of a recording as they are run: calls, and lines that are none.
+use falling_hours::falls::RECORDS;
 use integers::answer::DONE;
-use link_state::events::Event;
-use link_state::events::Side;
-use link_state::events::event_of;
-use link_state::events::role_of;
-use link_state::events::side_of;
-use link_state::notes::NOTES;
-use link_state::notes::forget_waiting;
-use link_state::notes::note_over;
-use link_state::sums::block_sum;
+use link_events::events::Event;
+use link_events::events::Side;
+use link_events::events::event_of;
+use link_events::events::role_of;
+use link_events::events::side_of;
+use link_notes::notes::NOTES;
+use link_notes::notes::forget_waiting;
+use link_notes::notes::note_over;
+use link_notes::sums::block_sum;
 use link_state::written::begin_table;
 use link_state::written::note_written;
-use machines::falls::RECORDS;
 use readable::form::filled;
 use recording::Call;
 use recording::Fault;

@@ -1,14 +1,14 @@
 // A header block offered to the decoder: its line, and those behind it.
+use falling_hours::falls::Fall;
+use falling_hours::falls::RECORDS;
 use integers::answer::DONE;
 use integers::answer::WAITS;
+use link_notes::notes::NOTES;
+use link_notes::notes::note_answered;
+use link_notes::notes::note_waiting;
+use link_notes::sums::block_sum;
 use link_state::doubt::Doubt;
 use link_state::doubt::doubt_of;
-use link_state::notes::NOTES;
-use link_state::notes::note_answered;
-use link_state::notes::note_waiting;
-use link_state::sums::block_sum;
-use machines::falls::Fall;
-use machines::falls::RECORDS;
 use machines::keep::Told;
 use machines::keep::keep;
 use readable::form::end_line;

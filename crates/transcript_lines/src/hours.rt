@@ -1,7 +1,7 @@
 // What a line says of the hours of a block, and the lines behind it.
+use falling_hours::falls::Fall;
+use falling_hours::standing::Standing;
 use labels::entry;
-use machines::falls::Fall;
-use machines::standing::Standing;
 use readable::form::end_line;
 use readable::form::filled;
 use reports::report::Named;

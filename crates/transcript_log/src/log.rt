@@ -1,7 +1,7 @@
 // What was told so far, by value: the link as it is then, the counts, and the text.
 use crate::tally::Count;
 use crate::tally::Tally;
-use link_state::ends::Ends;
+use link_events::ends::Ends;
 use text_io::print::Text;
 
 pub struct Log {

@@ -2,9 +2,9 @@
 ghost use Prim.Native.Nat.{_≤_};
 use crate::log::Log;
 use crate::tally::Count;
-use link_state::notes::ALL_PARTS;
-use link_state::notes::NOTES;
-use link_state::notes::is_waiting;
+use link_notes::notes::ALL_PARTS;
+use link_notes::notes::NOTES;
+use link_notes::notes::is_waiting;
 use readable::form::end_line;
 use readable::form::filled;
 use text_io::print;

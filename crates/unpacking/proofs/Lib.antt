@@ -1,5 +1,4 @@
--- The laws of finding codes, of bits that wait, and of unpacking in turns.
-pub mod Longs
+-- The laws of bits that wait, and of unpacking in turns.
 pub mod Highest
 pub mod Refills
 pub mod Turns

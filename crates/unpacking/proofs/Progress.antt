@@ -15,7 +15,7 @@ use Rattle.huffman.proofs.BitLaws.{length-bits}
 use Rattle.huffman.proofs.Unpacks.{unpack-byte, length-unpack}
 use Rattle.short_codes.specs.Short.{shortOf}
 use Rattle.unpacking.specs.declared.bits.Bits.{Bits}
-use Rattle.unpacking.specs.Fronts.{LongCode}
+use Rattle.long_codes.specs.Fronts.{LongCode}
 use Rattle.unpacking.specs.Waiting.{highest, waiting, Sound, Refilled}
 use Rattle.unpacking.proofs.Highest.{length-highest}
 use Rattle.unpacking.proofs.Refills.{held}

@@ -21,7 +21,7 @@ use Rattle.huffman.proofs.Prefixes.{Begins, pick-first, pick-second, code-fit, 
 use Rattle.huffman.proofs.Standings.{one-code}
 use Rattle.huffman.proofs.Unpacks.{unpack-mark, unpack-end}
 use Rattle.short_codes.specs.Short.{shortOf}
-use Rattle.unpacking.specs.Fronts.{LongFront, LongCode}
+use Rattle.long_codes.specs.Fronts.{LongFront, LongCode}
 use Rattle.unpacking.specs.Waiting.{highest, waiting, Sound}
 use Rattle.short_codes.proofs.Fronts.{short-none, short-front, below, below-at}
 use Rattle.unpacking.proofs.Highest.{length-highest, cut, highest-take, zeros-take, padded-long}

@@ -1,3 +1,2 @@
 -- What the functions of `unpacking` mean. Packed strings themselves are defined in `huffman`.
-pub mod Fronts
 pub mod Waiting

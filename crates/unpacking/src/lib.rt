@@ -1,5 +1,3 @@
-// Packed strings unpacked: the bits that wait, the codes that begin them, and the bytes that these say.
+// Packed strings unpacked: the bits that wait, and the bytes that the codes in them say.
 pub mod bits;
-pub mod codes;
-pub mod symbol;
 pub mod unpack;

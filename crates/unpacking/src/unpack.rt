@@ -9,7 +9,7 @@ use crate::bits::Bits;
 use crate::bits::FULL;
 use crate::bits::padded;
 use crate::bits::refill;
-use crate::codes::long_code;
+use long_codes::codes::long_code;
 use short_codes::code::short_code;
 use short_codes::size::short_size;
 

@@ -6,10 +6,4 @@ pub mod TextBounds
 pub mod TextBack
 pub mod TextKept
 pub mod TextVectors
-pub mod ListLaws
-pub mod ListBounds
-pub mod ListWriting
-pub mod ListBack
-pub mod ListKept
-pub mod ListVectors
 pub mod Told

@@ -15,8 +15,8 @@ use Rattle.integers.specs.Integer.{intWire}
 use Rattle.integers.proofs.Writing.{int-in-prefix}
 use Rattle.integers.proofs.Lengths.{int-length}
 use Rattle.huffman.specs.Packing.{pack, packedSize}
-use Rattle.huffman.specs.Within.{packedIn, PackedOver}
-use Rattle.huffman.specs.declared.pack.Packed.the-variants.{Ends, Longer}
+use Rattle.packing.specs.Within.{packedIn, PackedOver}
+use Rattle.packing.specs.declared.pack.Packed.the-variants.{Ends, Longer}
 use Rattle.huffman.proofs.Packs.{packed-length}
 use Rattle.wire.specs.Text.{stringWire}
 use Rattle.wire.specs.Room.{plainWire, packedLength, RoomMade, tried, shut, told}

@@ -1,37 +1,26 @@
--- Which numbers strings and names (2, 3, 19, 13, 18) and stream lists (2, 3, 19, 14) are refused by. What follows one is refused by these and by its own.
+-- Which numbers strings and names are refused by: 2, 3, 19, 13, 18. What follows one is refused by these and by its own.
 -- Along the definitions, as for integers.
 use mathlib.Core.Bool.{Bool}
-use Prim.Native.Nat.{ℕ, zero, suc, _+_, _-_}
+use Prim.Native.Nat.{ℕ, _-_}
 use mathlib.Core.List.{List, [], _∷_}
 use lib.ListN.{length}
 use lib.Dec.{ltb, leb, eqb}
 use Rattle.memory.proofs.Order.{pick-both, need-both}
-use Rattle.integers.specs.Answers.{truncated, too-large, padded, too-long, bad-stream-list, bad-packing}
+use Rattle.integers.specs.Answers.{truncated, too-large, padded, too-long, bad-packing}
 use Rattle.integers.specs.Integer.{readInt}
 use Rattle.integers.proofs.Told.{Told, One, wider, intRefusals, int-told, told-on-int}
 use Rattle.huffman.specs.Packing.{Unpacked}
 use Rattle.wire.specs.Text.{onString, textAt, sizeLimit, isPacked, readString, stringAfter, stringEnd}
 use Rattle.wire.specs.Name.{onName, readName}
-use Rattle.wire.specs.StreamList.{onDelta, onDeltas, onList, readDelta, readDeltas, readList}
 use Rattle.wire.specs.declared.text.StringPlace.{StringPlace}
 use Rattle.wire.specs.declared.text.StringRead.{StringRead}
 use Rattle.wire.specs.declared.text.StringRead.the-variants.{Found, Refused}
 use Rattle.wire.specs.declared.name.NamePlace.{NamePlace}
 use Rattle.wire.specs.declared.name.NameRead.{NameRead}
 use Rattle.wire.specs.declared.name.NameRead.the-variants.{Found as NameFound, Refused as NameRefused}
-use Rattle.wire.specs.declared.stream_list.ListPlace.{ListPlace}
-use Rattle.wire.specs.declared.stream_list.DeltaRead.{DeltaRead}
-use Rattle.wire.specs.declared.stream_list.DeltaRead.the-variants.{Stream, Refused as DeltaRefused}
-use Rattle.wire.specs.declared.stream_list.DeltasRead.{DeltasRead}
-use Rattle.wire.specs.declared.stream_list.DeltasRead.the-variants.{End, Refused as DeltasRefused}
-use Rattle.wire.specs.declared.stream_list.ListRead.{ListRead}
-use Rattle.wire.specs.declared.stream_list.ListRead.the-variants.{Found as ListFound, Refused as ListRefused}
 
 abbrev pub textRefusals : List ℕ
 textRefusals = truncated ∷ too-large ∷ padded ∷ too-long ∷ bad-packing ∷ []
-
-abbrev pub listRefusals : List ℕ
-listRefusals = truncated ∷ too-large ∷ padded ∷ bad-stream-list ∷ []
 
 abbrev pub StringTold : StringRead → Type 0
 StringTold (Found p next) = Unit {0}
@@ -40,18 +29,6 @@ StringTold (Refused m) = One textRefusals m
 abbrev pub NameTold : NameRead → Type 0
 NameTold (NameFound p next) = Unit {0}
 NameTold (NameRefused m) = One textRefusals m
-
-abbrev pub DeltaTold : DeltaRead → Type 0
-DeltaTold (Stream x next) = Unit {0}
-DeltaTold (DeltaRefused m) = One listRefusals m
-
-abbrev pub DeltasTold : DeltasRead → Type 0
-DeltasTold (End next) = Unit {0}
-DeltasTold (DeltasRefused m) = One listRefusals m
-
-abbrev pub ListTold : ListRead → Type 0
-ListTold (ListFound p next) = Unit {0}
-ListTold (ListRefused m) = One listRefusals m
 
 -- a reader's answer, then what follows
 module _ {X : Type 0} (Fine : X → Type 0) (refused : ℕ → X) (h : (m : ℕ) → One textRefusals m → Fine (refused m)) where
@@ -64,21 +41,6 @@ module _ {X : Type 0} (Fine : X → Type 0) (refused : ℕ → X) (h : (m : ℕ)
       → Told Fine (onName refused r f)
   told-on-name (NameFound p next) k g = g p next
   told-on-name (NameRefused m) k g = record { told = h m (k .told) }
-
-module _ {X : Type 0} (Fine : X → Type 0) (refused : ℕ → X) (h : (m : ℕ) → One listRefusals m → Fine (refused m)) where
-  pub told-on-delta : (r : DeltaRead) {f : ℕ → ℕ → X} → Told DeltaTold r → ((x next : ℕ) → Told Fine (f x next))
-      → Told Fine (onDelta refused r f)
-  told-on-delta (Stream x next) k g = g (x .value) next
-  told-on-delta (DeltaRefused m) k g = record { told = h m (k .told) }
-
-  pub told-on-deltas : (r : DeltasRead) {f : ℕ → X} → Told DeltasTold r → ((next : ℕ) → Told Fine (f next)) → Told Fine (onDeltas refused r f)
-  told-on-deltas (End next) k g = g next
-  told-on-deltas (DeltasRefused m) k g = record { told = h m (k .told) }
-
-  pub told-on-list : (r : ListRead) {f : ListPlace → ℕ → X} → Told ListTold r → ((p : ListPlace) (next : ℕ) → Told Fine (f p next))
-      → Told Fine (onList refused r f)
-  told-on-list (ListFound p next) k g = g p next
-  told-on-list (ListRefused m) k g = record { told = h m (k .told) }
 
 module _ (s : List ℕ) (at : ℕ) where
   end-told : (packed : Bool) (limit size start : ℕ) (u : Unpacked) → Told StringTold (stringEnd packed limit size start u)
@@ -100,13 +62,6 @@ module _ (s : List ℕ) (at : ℕ) where
       need-both (Told StringTold) (ltb at (length s)) (Refused 2) _ (λ e. record { told = tt })
       (λ e. told-on-int StringTold Refused (wider textRefusals intRefusals tt) (readInt 7 s at) (int-told 7 s at) (after-told (isPacked s at) limit))
 
-  pub delta-told : (last : ℕ) → Told DeltaTold (readDelta s at last)
-  unfolding readDelta
-  delta-told last =
-      told-on-int DeltaTold DeltaRefused (wider listRefusals intRefusals tt) (readInt 8 s at) (int-told 8 s at)
-      (λ delta next. need-both (Told DeltaTold) (ltb 0 delta) (DeltaRefused 14) _ (λ e. record { told = tt })
-      (λ e. need-both (Told DeltaTold) (leb (last + delta) 4095) (DeltaRefused 14) _ (λ d. record { told = tt }) (λ d. record { told = tt })))
-
 pub name-told : (k : ℕ) (s : List ℕ) (at : ℕ) → Told NameTold (readName k s at)
 unfolding readName
 name-told k s at =
@@ -114,19 +69,3 @@ name-told k s at =
     (λ index next. pick-both (Told NameTold) (eqb index 0) _ _
     (λ e. told-on-string NameTold NameRefused (λ m r. r) (readString s next 255) (string-told s next 255) (λ p after. record { told = tt }))
     (λ e. record { told = tt }))
-
-deltas-told : (n : ℕ) (s : List ℕ) (at last : ℕ) → Told DeltasTold (readDeltas n s at last)
-unfolding readDeltas
-deltas-told zero s at last = record { told = tt }
-deltas-told (suc n) s at last =
-    told-on-delta DeltasTold DeltasRefused (λ m r. r) (readDelta s at last) (delta-told s at last) (λ x next. deltas-told n s next x)
-
-pub list-told : (s : List ℕ) (at : ℕ) → Told ListTold (readList s at)
-unfolding readList
-list-told s at =
-    told-on-int ListTold ListRefused (wider listRefusals intRefusals tt) (readInt 8 s at) (int-told 8 s at)
-    (λ horizon after. need-both (Told ListTold) (leb horizon 4096) (ListRefused 14) _ (λ e. record { told = tt })
-    (λ e. told-on-int ListTold ListRefused (wider listRefusals intRefusals tt) (readInt 8 s after) (int-told 8 s after)
-    (λ count deltas. need-both (Told ListTold) (leb count 16) (ListRefused 14) _ (λ d. record { told = tt })
-    (λ d. told-on-deltas ListTold ListRefused (λ m r. r) (readDeltas count s deltas horizon) (deltas-told count s deltas horizon)
-    (λ next. record { told = tt })))))

@@ -1,6 +1,5 @@
--- Strings, names and stream lists.
+-- Strings and names.
 pub mod Text
 pub mod Short
 pub mod Room
 pub mod Name
-pub mod StreamList

@@ -1,4 +1,3 @@
-// What the draft writes with prefix integers: strings, names and stream lists, read and written.
+// What the draft writes with prefix integers: strings and names, read and written.
 pub mod name;
-pub mod stream_list;
 pub mod text;

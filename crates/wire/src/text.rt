@@ -8,9 +8,6 @@ ghost use Rattle.wire.specs.Text.{InString, stringAnswer, stringLength, 
 ghost use Rattle.wire.specs.Room.{plainWire, RoomMade};
 ghost use Rattle.wire.specs.Short.{shortStringAt};
 use copying::copy::copy;
-use huffman::pack::Packed;
-use huffman::pack::pack;
-use huffman::pack::packed_size;
 use integers::answer::BAD_PACKING;
 use integers::answer::DONE;
 use integers::answer::TOO_LONG;
@@ -18,6 +15,9 @@ use integers::answer::TRUNCATED;
 use integers::byte::wide;
 use integers::integer::IntRead;
 use integers::integer::WireInt;
+use packing::pack::Packed;
+use packing::pack::pack;
+use packing::pack::packed_size;
 use unpacking::unpack::unpack;
 use unpacking::unpack::unpacked_size;
 

@@ -3,7 +3,7 @@ use mathlib.Core.Path.{sym, _∙_}
 use Prim.Native.Nat.{_-_, _≤_}
 use native.Mathlib.Omega.{arith}
 use borrow.Author.Needs.{needs}
-use Rattle.wire.proofs.ListBounds.{delta-good}
+use Rattle.stream_lists.proofs.ListBounds.{delta-good}
 use Rattle.show.proofs.streams.Statement.{statement}
 use Rattle.show.proofs.streams.Tie as tie
 

@@ -1,5 +1,5 @@
 use native.Mathlib.Omega.{arith}
-use Rattle.wire.specs.StreamList.{listOf}
+use Rattle.stream_lists.specs.StreamList.{listOf}
 use Rattle.deletes.proofs.Stored.{append-stored}
 use Rattle.deletes.proofs.Listing.{list-counted}
 use borrow.Author.Needs.{needs}

@@ -1,4 +1,4 @@
-use Rattle.wire.specs.StreamList.{listOf}
+use Rattle.stream_lists.specs.StreamList.{listOf}
 use Rattle.deletes.proofs.Stored.{list-stored}
 use Rattle.deletes.proofs.Listing.{list-counted}
 use borrow.Author.Needs.{needs}

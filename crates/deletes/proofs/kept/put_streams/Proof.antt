@@ -5,7 +5,7 @@ use borrow.Author.Needs.{needs}
 use lib.ListN.{length}
 use Rattle.memory.specs.Bytes.{overlay}
 use Rattle.memory.proofs.Overlay.{length-overlay}
-use Rattle.wire.specs.StreamList.{streamsFrom}
+use Rattle.stream_lists.specs.StreamList.{streamsFrom}
 use Rattle.state.specs.DecoderState.{streamsBytes}
 use Rattle.deletes.proofs.Listing.{Left, left-all, left-none, never-refused, left-less}
 use Rattle.deletes.proofs.kept.put_streams.Statement.{statement}

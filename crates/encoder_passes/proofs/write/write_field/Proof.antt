@@ -16,7 +16,7 @@ use Rattle.state.specs.EncoderState.{encoderOf}
 use Rattle.parts.specs.Turn.{partIn}
 use Rattle.encoder_fields.specs.Refer.{enteredBy}
 use Rattle.encoder_fields.proofs.Fields.{field-fine}
-use Rattle.encoder_passes.proofs.Entering.{entered-choice}
+use Rattle.encoder_references.proofs.Entering.{entered-choice}
 use Rattle.encoder_passes.proofs.Writing.{choice-low, choice-fine, choice-long}
 use borrow.Author.Needs.{needs}
 use Rattle.encoder_passes.proofs.write.write_field.Statement.{statement}

@@ -1,7 +1,7 @@
 -- `read_delete` answers what `readDelete` says: each way out is one equation of `Equations`.
 use mathlib.Core.Path.{sym, ap, _∙_}
-use Rattle.wire.specs.StreamList.{listAnswer}
-use Rattle.wire.specs.declared.stream_list.ListRead.{ListRead}
+use Rattle.stream_lists.specs.StreamList.{listAnswer}
+use Rattle.stream_lists.specs.declared.stream_list.ListRead.{ListRead}
 use Rattle.instructions.specs.Reading.{indexAnswer}
 use Rattle.instructions.specs.declared.read.IndexRead.{IndexRead}
 use Rattle.instructions.specs.declared.read.InstructionRead.the-variants.{Refused}

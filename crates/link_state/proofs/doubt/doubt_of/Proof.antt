@@ -1,6 +1,6 @@
 -- `doubt_of` meets its contract, by its tests.
 use mathlib.Core.Path.{refl, _∙_}
-use Rattle.link_state.specs.Notes.{placeOf, halfOf, isNoted}
+use Rattle.link_notes.specs.Notes.{placeOf, halfOf, isNoted}
 use Rattle.link_state.specs.Doubts.{doubtOf}
 use Rattle.link_state.proofs.Doubting.{link-broken, link-whole, table-right, table-wrong}
 use borrow.Author.Needs.{needs}

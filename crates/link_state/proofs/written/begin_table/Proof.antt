@@ -1,5 +1,5 @@
 -- `begin_table` meets its contract: it clears both.
-use Rattle.link_state.proofs.Clearing.{cleared-both}
+use Rattle.link_notes.proofs.Clearing.{cleared-both}
 use borrow.Author.Needs.{needs}
 use Rattle.link_state.proofs.written.begin_table.Statement.{statement}
 use Rattle.link_state.proofs.written.begin_table.Tie as tie

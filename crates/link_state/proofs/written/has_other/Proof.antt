@@ -1,6 +1,6 @@
 -- `has_other` meets its contract, by its tests.
 use mathlib.Core.Path.{sym, _∙_}
-use Rattle.link_state.specs.Notes.{hasOther}
+use Rattle.link_notes.specs.Notes.{hasOther}
 use borrow.Author.Needs.{needs}
 use Rattle.link_state.proofs.written.has_other.Statement.{statement}
 use Rattle.link_state.proofs.written.has_other.Tie as tie

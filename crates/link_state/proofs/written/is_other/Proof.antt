@@ -1,6 +1,6 @@
 -- `is_other` meets its contract, by its test.
 use borrow.Author.Tests.{eq-eqb, ne-eqb}
-use Rattle.link_state.specs.Notes.{isOther}
+use Rattle.link_notes.specs.Notes.{isOther}
 use borrow.Author.Needs.{needs}
 use Rattle.link_state.proofs.written.is_other.Statement.{statement}
 use Rattle.link_state.proofs.written.is_other.Tie as tie

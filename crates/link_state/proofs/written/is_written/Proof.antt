@@ -2,7 +2,7 @@
 use mathlib.Core.Path.{_≡_, sym, ap, _∙_}
 use mathlib.Core.Bool.{not}
 use native.Mathlib.Omega.{arith}
-use Rattle.link_state.proofs.Places.{place-below, is-noted-at, not-noted-at}
+use Rattle.link_notes.proofs.Places.{place-below, is-noted-at, not-noted-at}
 use borrow.Author.Needs.{needs}
 use Rattle.link_state.proofs.written.is_written.Statement.{statement}
 use Rattle.link_state.proofs.written.is_written.Tie as tie

@@ -1,7 +1,7 @@
 -- `note_written` meets its contract: a place lies within those of all parts.
 use mathlib.Core.Path.{_≡_, sym, _∙_}
 use native.Mathlib.Omega.{arith}
-use Rattle.link_state.proofs.Places.{place-below, noted-at}
+use Rattle.link_notes.proofs.Places.{place-below, noted-at}
 use borrow.Author.Needs.{needs}
 use Rattle.link_state.proofs.written.note_written.Statement.{statement}
 use Rattle.link_state.proofs.written.note_written.Tie as tie

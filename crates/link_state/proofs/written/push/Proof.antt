@@ -1,6 +1,6 @@
 -- `push` meets its contract: its stores are those of `pushed`.
 use mathlib.Core.Path.{refl}
-use Rattle.link_state.specs.Notes.{pushed}
+use Rattle.link_notes.specs.Notes.{pushed}
 use borrow.Author.Needs.{needs}
 use Rattle.link_state.proofs.written.push.Statement.{statement}
 use Rattle.link_state.proofs.written.push.Tie as tie

@@ -4,7 +4,7 @@ use Prim.Native.Nat.{_-_}
 use native.Mathlib.Omega.{arith}
 use borrow.Author.Tests.{not-true, not-false}
 use lib.ListN.{length, drop}
-use Rattle.reports.specs.Ascii.{allPrintable}
+use Rattle.shown_bytes.specs.Ascii.{allPrintable}
 use Rattle.reports.proofs.Judging.{printable-done, printable-not, printable-more}
 use Rattle.reports.proofs.report.all_printable.Statement.{statement}
 use Rattle.reports.proofs.report.all_printable.Tie as tie

@@ -1,0 +1,2 @@
+// The representations of header blocks, written.
+pub mod write;

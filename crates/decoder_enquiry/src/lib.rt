@@ -1,0 +1,2 @@
+// The decoder's enquiry: what holds an entry under deletion.
+pub mod enquiry;

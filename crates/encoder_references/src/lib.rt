@@ -1,0 +1,2 @@
+// The references of a block, entered in the table.
+pub mod refer;

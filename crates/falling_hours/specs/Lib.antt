@@ -1,0 +1,3 @@
+-- Where a machine stands, and hours that fall.
+pub mod Falls
+pub mod Standing

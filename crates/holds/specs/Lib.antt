@@ -1,0 +1,2 @@
+-- Parts that a delete names, counted in memory.
+pub mod Hold

@@ -1,0 +1,2 @@
+-- The laws of a horizon that is raised.
+pub mod Raising

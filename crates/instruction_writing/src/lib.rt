@@ -1,0 +1,2 @@
+// Instructions of the management stream and acknowledgements, written.
+pub mod write;

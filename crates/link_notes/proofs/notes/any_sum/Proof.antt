@@ -1,0 +1,75 @@
+-- `any_sum` meets its contract, by its tests.
+use borrow.Author.Tests.{lt-ltb, le-ltb}
+use Rattle.link_notes.specs.Notes.{anySum}
+use borrow.Author.Needs.{needs}
+use Rattle.link_notes.proofs.notes.any_sum.Statement.{statement}
+use Rattle.link_notes.proofs.notes.any_sum.Tie as tie
+
+mul-if1 : tie.Need-mul-if1
+mul-if1 c = search needs
+
+element-copy-out-if1 : tie.Need-element-copy-out-if1
+element-copy-out-if1 c = search needs
+
+returns : tie.Need-returns
+unfolding anySum
+returns c = rw (lt-ltb 0 _ (c .if1 .taken))
+
+add-if2 : tie.Need-add-if2
+add-if2 c = search needs
+
+mul-if2 : tie.Need-mul-if2
+mul-if2 c = search needs
+
+element-copy-out-if2 : tie.Need-element-copy-out-if2
+element-copy-out-if2 c = search needs
+
+returns-2 : tie.Need-returns-2
+unfolding anySum
+returns-2 c = rw (le-ltb 0 _ (c .before .before .if1 .left), lt-ltb 0 _ (c .if2 .taken))
+
+add-if3 : tie.Need-add-if3
+add-if3 c = search needs
+
+mul-if3 : tie.Need-mul-if3
+mul-if3 c = search needs
+
+element-copy-out-if3 : tie.Need-element-copy-out-if3
+element-copy-out-if3 c = search needs
+
+returns-3 : tie.Need-returns-3
+unfolding anySum
+returns-3 c = rw (le-ltb 0 _ (c .before .before .before .before .if1 .left), le-ltb 0 _ (c .before .before .if2 .left), lt-ltb 0 _ (c .if3 .taken))
+
+add-result : tie.Need-add-result
+add-result c = search needs
+
+mul-result : tie.Need-mul-result
+mul-result c = search needs
+
+element-copy-out-result : tie.Need-element-copy-out-result
+element-copy-out-result c = search needs
+
+returns-4 : tie.Need-returns-4
+unfolding anySum
+returns-4 c = rw (le-ltb 0 _ (c .before .before .before .before .before .if1 .left), le-ltb 0 _ (c .before .before .before .if2 .left), le-ltb 0 _ (c .before .if3 .left))
+
+pub any-sum-spec : {M : Type 1} → statement M
+any-sum-spec =
+    tie.close
+    (tie.spec
+    mul-if1
+    element-copy-out-if1
+    returns
+    add-if2
+    mul-if2
+    element-copy-out-if2
+    returns-2
+    add-if3
+    mul-if3
+    element-copy-out-if3
+    returns-3
+    add-result
+    mul-result
+    element-copy-out-result
+    returns-4)

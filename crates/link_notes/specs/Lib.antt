@@ -1,0 +1,3 @@
+-- Sums of blocks, and where they are noted.
+pub mod Notes
+pub mod Sums

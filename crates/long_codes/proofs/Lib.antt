@@ -1,0 +1,2 @@
+-- The laws of finding a long code.
+pub mod Longs

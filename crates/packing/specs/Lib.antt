@@ -1,0 +1,3 @@
+-- What the functions of `packing` mean. Packed strings themselves are defined in `huffman`.
+pub mod Sizes
+pub mod Within

@@ -1,0 +1,2 @@
+-- What is shown of the form of a byte.
+pub mod Reading

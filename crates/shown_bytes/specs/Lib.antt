@@ -1,0 +1,3 @@
+-- How a field is shown.
+pub mod Ascii
+pub mod Shown

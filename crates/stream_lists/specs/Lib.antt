@@ -1,0 +1,2 @@
+-- Stream lists.
+pub mod StreamList

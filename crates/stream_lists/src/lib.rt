@@ -1,0 +1,2 @@
+// Stream lists, read and written.
+pub mod stream_list;

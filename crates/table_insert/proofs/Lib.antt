@@ -1,0 +1,2 @@
+-- The laws of a name that stands in the memory itself.
+pub mod Names

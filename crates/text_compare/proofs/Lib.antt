@@ -1,0 +1,2 @@
+-- The laws of bytes compared by words.
+pub mod Words

@@ -1,0 +1,2 @@
+// Bytes compared with text in the table, by words.
+pub mod text;
