@@ -8,9 +8,9 @@ ghost use Rattle.blocks.specs.Representation.{Representation, FineRepresentatio
 use blocks::read;
 use integers::integer::WireInt;
 use integers::number::TableIndex;
-use wire::name::write_name_index;
-use wire::name::write_name_text;
-use wire::text::write_string;
+use wire_writing::write::write_name_index;
+use wire_writing::write::write_name_text;
+use wire_writing::write::write_string;
 
 // The bit before an index, and the N bit of a literal, as a reader finds them.
 const INDEXED: u32 = read::INDEXED as u32;

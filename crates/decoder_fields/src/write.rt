@@ -1,32 +1,25 @@
 // The fields of a block written in the host's list form.
 ghost use mathlib.Core.Path.{_≡_};
-ghost use Prim.Native.Nat.{ℕ, _+_, _-_, _<_, _≤_};
+ghost use Prim.Native.Nat.{ℕ, _+_, _<_, _≤_};
 ghost use lib.ListN.{length, getD};
 ghost use Rattle.memory.specs.Bytes.{overlay};
 ghost use Rattle.statics.specs.Table.{staticText};
 ghost use Rattle.wire.specs.Text.{InString, stringLength, stringBytes};
 ghost use Rattle.fields.specs.Form.{textForm, fieldForm};
-ghost use Rattle.blocks.specs.Representation.{Representation};
 ghost use Rattle.blocks.specs.Reading.{InBytes, readRepresentation};
-ghost use Rattle.short_forms.specs.Short.{shortIndexAt, shortLiteralAt};
-ghost use Rattle.state.specs.Layout.{countOf};
-ghost use Rattle.state.specs.Rows.{nameAt, valueAt};
-ghost use Rattle.table_search.specs.Search.{Ordered};
-ghost use Rattle.decoder_survey.specs.Measure.{Stands, fieldMeant, fieldAt, namedAt, literalAt, IsField, fieldBytes, ReadsWell, meaningOf, IsList, listBytes};
-ghost use Rattle.decoder_survey.specs.Passes.{rowField, shortForm, meaningFrom, Unwritten};
+ghost use Rattle.short_forms.specs.Short.{shortIndexAt};
+ghost use Rattle.decoder_survey.specs.Measure.{Stands, fieldAt, namedAt, literalAt, IsField, fieldBytes, ReadsWell, meaningOf, IsList, listBytes};
+ghost use Rattle.decoder_survey.specs.Passes.{meaningFrom, Unwritten};
 ghost use Rattle.decoder_fields.specs.Indexes.{indexIn, IsLiteral, rowIndex};
 use blocks::read::INDEXED;
 use blocks::read::RepresentationPlace;
 use blocks::read::RepresentationRead;
-use blocks::read::flag_of;
 use blocks::read::read_representation;
-use copying::copy::copy;
+use copied_fields::write::write_dynamic;
+use copied_fields::write::write_indexed;
+use copied_fields::write::write_short;
 use entry_places::place::locate;
 use entry_places::place::name_at;
-use entry_places::place::row_name;
-use entry_places::place::row_value;
-use entry_places::place::value_at;
-use field_writing::write::write_field;
 use field_writing::write::write_length;
 use field_writing::write::write_text;
 use integers::number::TableIndex;
@@ -37,8 +30,6 @@ use short_forms::short::short_index;
 use short_forms::short::short_literal;
 use statics::table::LAST;
 use statics::table::static_text;
-use table_search::find::Found;
-use table_search::find::find;
 use wire::name::NamePlace;
 use wire::text::StringPlace;
 
@@ -57,26 +48,6 @@ fn write_string_text(s: &[u8], p: StringPlace, out: &mut [u8], at: usize) -> usi
 {
     let next = write_length(p.length(s), out, at);
     p.copy(s, out, next)
-}
-
-// A field of the tables by its index.
-fn write_indexed<'a>(
-    text: &'a [u8],
-    m: &'a [u8],
-    index: TableIndex,
-    out: &mut [u8],
-    at: usize,
-) -> usize
-    requires { ⌜ (now text ≡ staticText) × Stands (now m) × (0 < index .value) ⌝ }
-    requires { ⌜ IsField (fieldMeant (now m) (Representation.indexed (index .value))) ⌝ }
-    requires { ⌜ at + length (fieldBytes (fieldMeant (now m) (Representation.indexed (index .value)))) ≤ length (now out) ⌝ }
-    ensures { λ r. ⌜ r ≡ at + length (fieldBytes (fieldMeant (now (m .entry)) (Representation.indexed (index .value)))) ⌝ }
-    ensures { λ _. ⌜ now (out .exit) ≡ overlay (now (out .entry)) at (fieldBytes (fieldMeant (now (m .entry)) (Representation.indexed (index .value)))) ⌝ }
-{
-    let place = locate(m, index);
-    let name = name_at(text, m, place);
-    let value = value_at(text, m, place);
-    write_field(0, name, value, out, at)
 }
 
 // A literal whose name is an entry's.
@@ -176,19 +147,6 @@ fn read_index(s: &[u8], at: usize) -> IndexedRead
     IndexedRead::Entry(index, next)
 }
 
-// A short literal at the place `at`, up to the place `next`: from its second byte on it stands in the block as in the list.
-pub fn write_short(s: &[u8], at: usize, next: usize, out: &mut [u8], to: usize) -> usize
-    requires { ⌜ (at < length (now s)) × (getD (now s) at 0 < 128) × (shortLiteralAt (now s) at ≡ ShortLiteral.Ends next) ⌝ }
-    requires { ⌜ to + (next - at) ≤ length (now out) ⌝ }
-    ensures { λ r. ⌜ r ≡ to + length (shortForm (now (s .entry)) at next) ⌝ }
-    ensures { λ _. ⌜ now (out .exit) ≡ overlay (now (out .entry)) to (shortForm (now (s .entry)) at next) ⌝ }
-{
-    let flag = flag_of(s[at]);
-    out[to] = flag;
-    let from = at + 1;
-    copy(&s[from..next], out, to + 1)
-}
-
 // All fields from a place of the block on, whatever their form. The static text is made here, once: 86 instructions. A block does not go back to
 // `write_fields`: the text would be made again at the next static index, and a row would gain two instructions (13 rows behind a static index take 2,432,
 // before it 2,408). Short literals looked for here too were measured: 201 instructions a field for 219 (browser requests, literal), but 171 for 167 where all
@@ -218,36 +176,6 @@ fn write_rest(m: &[u8], s: &[u8], from: usize, out: &mut [u8], start: usize)
             at = next;
         }
     }
-}
-
-// The field of row `i`.
-fn write_row(m: &[u8], i: usize, out: &mut [u8], to: usize) -> usize
-    requires { ⌜ (i < countOf (now m)) × Ordered (now m) ⌝ }
-    requires { ⌜ (length (nameAt (now m) i) ≤ 255) × (length (valueAt (now m) i) ≤ 2047) ⌝ }
-    requires { ⌜ to + length (fieldForm (rowField (now m) i)) ≤ length (now out) ⌝ }
-    ensures { λ r. ⌜ r ≡ to + length (fieldForm (rowField (now (m .entry)) i)) ⌝ }
-    ensures { λ _. ⌜ now (out .exit) ≡ overlay (now (out .entry)) to (fieldForm (rowField (now (m .entry)) i)) ⌝ }
-{
-    let name = row_name(m, i);
-    let value = row_value(m, i);
-    out[to] = 0;
-    let next = write_text(name, out, to + 1);
-    write_text(value, out, next)
-}
-
-// A field of the header table by its index. A row is found, since a field is meant.
-fn write_dynamic(m: &[u8], index: TableIndex, out: &mut [u8], to: usize) -> usize
-    requires { ⌜ Stands (now m) × (61 < index .value) ⌝ }
-    requires { ⌜ IsField (fieldMeant (now m) (Representation.indexed (index .value))) ⌝ }
-    requires { ⌜ to + length (fieldBytes (fieldMeant (now m) (Representation.indexed (index .value)))) ≤ length (now out) ⌝ }
-    ensures { λ r. ⌜ r ≡ to + length (fieldBytes (fieldMeant (now (m .entry)) (Representation.indexed (index .value)))) ⌝ }
-    ensures { λ _. ⌜ now (out .exit) ≡ overlay (now (out .entry)) to (fieldBytes (fieldMeant (now (m .entry)) (Representation.indexed (index .value)))) ⌝ }
-{
-    let f = find(m, index);
-    let Found::At(i) = f else {
-        return to;
-    };
-    write_row(m, i, out, to)
 }
 
 // The short index of the header table at the place `at`. One function, so that the compiler makes one test of its three.

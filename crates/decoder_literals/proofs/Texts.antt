@@ -21,7 +21,7 @@ use Rattle.wire.specs.declared.text.StringPlace.{StringPlace}
 use Rattle.wire.specs.declared.text.StringRead.the-variants.{Found}
 use Rattle.wire.proofs.Strings.{string-packed, measured-found}
 use Rattle.wire.proofs.TextBounds.{unpacked-bytes}
-use Rattle.wire.proofs.ShortStrings.{GoodShort, short-string-found, short-string-good}
+use Rattle.short_strings.proofs.ShortStrings.{GoodShort, short-string-found, short-string-good}
 use Rattle.fields.specs.Form.{textForm}
 use Rattle.fields.proofs.Sizes.{form-one}
 use Rattle.decoder_survey.proofs.ShortForms.{short-text}

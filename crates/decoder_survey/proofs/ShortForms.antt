@@ -12,7 +12,7 @@ use Rattle.wire.specs.Text.{stringBytes}
 use Rattle.wire.specs.declared.text.StringPlace.{StringPlace}
 use Rattle.wire.specs.declared.name.NamePlace.the-variants.{Text}
 use Rattle.wire.proofs.TextBounds.{plain-bytes}
-use Rattle.wire.proofs.ShortStrings.{GoodShort}
+use Rattle.short_strings.proofs.ShortStrings.{GoodShort}
 use Rattle.fields.specs.Form.{textForm, fieldForm}
 use Rattle.fields.proofs.Sizes.{form-one}
 use Rattle.blocks.specs.Reading.{flagOf, readRepresentation}

@@ -10,9 +10,9 @@ use instructions::read;
 use integers::integer::WireInt;
 use integers::number::TableIndex;
 use stream_lists::stream_list::write_list;
-use wire::name::write_name_index;
-use wire::name::write_name_text;
-use wire::text::write_string;
+use wire_writing::write::write_name_index;
+use wire_writing::write::write_name_text;
+use wire_writing::write::write_string;
 
 // The bits before an index, as a reader finds them.
 const INSERT: u32 = read::INSERT as u32;

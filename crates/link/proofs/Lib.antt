@@ -36,17 +36,9 @@ pub mod ClosedParts
 pub mod EncoderHistory
 pub mod Within
 pub mod HistoriesClaim
--- the order of reports
-pub mod ApartFacts
-pub mod OrderMarks
-pub mod OrderCalls
-pub mod OrderAgain
-pub mod OrderClaim
 -- demand 3, before "Hence"
 pub mod StillAccepted
 pub mod ReadyClaim
--- request 14: no deletion forgotten
-pub mod CollectsClaim
 -- demand 3, from "Hence" on: instructions one after another, byte events beside the model's, the rules and what follows
 pub mod Wires
 pub mod Steps
@@ -60,7 +52,3 @@ pub mod LinkServed
 pub mod LinkClaim
 -- demand 3, entire
 pub mod Demand
--- links that start anew: what each end starts a table with, the table's own run, and the link's claim for it
-pub mod TableStarts
-pub mod TableRuns
-pub mod TablesClaim

@@ -12,7 +12,7 @@ use Rattle.decoder.specs.Calls as decoder
 use Rattle.encoder.specs.Calls as encoder
 use Rattle.link.specs.Claims.{Ends, Event, events, Rules, AllLinkBytes, Started}
 use Rattle.link.proofs.LinkClaim.{fresh-ends, link-claim}
-use Rattle.link.proofs.TableStarts.{encoder-starts, decoder-starts, small-zeros}
+use Rattle.link_further.proofs.TableStarts.{encoder-starts, decoder-starts, small-zeros}
 use Rattle.link_examples.specs.Examples.{Shown, shown, callsOf, Example, life, accident, interim, largest, ExamplesClaim}
 use Rattle.link_examples.proofs.Seen.{shown-seen}
 use Rattle.link_examples.proofs.Computing.{computed}

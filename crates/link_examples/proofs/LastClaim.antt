@@ -32,14 +32,14 @@ use Rattle.model_laws.proofs.Collects.{collectedBy, collectedSince}
 use Rattle.state.specs.Layout.{decoderLength}
 use Rattle.decoder.specs.Calls.{startCall}
 use Rattle.link.specs.Calls.{DecoderCall, collect, AllDecoderBytes, decoderAfter}
-use Rattle.link.specs.Collects.{collected}
+use Rattle.link_further.specs.Collects.{collected}
 use Rattle.link.proofs.Lifted.{decoderCallOf, StandsDecoder}
 use Rattle.link.proofs.DecoderLifting.{start-decoder}
 use Rattle.link.proofs.Runs.{decoderCallsOf, after-decoder}
 use Rattle.link.proofs.CallTests.{all-decoder-given}
 use Rattle.link.proofs.DecoderHistory.{ready-enquiry}
-use Rattle.link.proofs.CollectsClaim.{collected-since}
-use Rattle.link.proofs.TableStarts.{decoder-starts, small-zeros}
+use Rattle.link_further.proofs.CollectsClaim.{collected-since}
+use Rattle.link_further.proofs.TableStarts.{decoder-starts, small-zeros}
 use Rattle.link_examples.specs.Last.{indexes, inserts, deletes, collects, LastOf128, LastClaim}
 use Rattle.link_examples.proofs.ListTests.{any, member-any}
 use Rattle.link_examples.proofs.Computing.{computed}

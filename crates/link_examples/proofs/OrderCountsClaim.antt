@@ -12,10 +12,10 @@ use Rattle.model.specs.DecoderCalls.{afterDecoder}
 use Rattle.reply.specs.Result.{stepped}
 use Rattle.decoder.specs.Calls.{startCall}
 use Rattle.link.specs.Calls.{DecoderCall, decoderResult, decoderAfter}
-use Rattle.link.specs.Order.{EitherWay, apart}
+use Rattle.link_further.specs.Order.{EitherWay, apart}
 use Rattle.link.proofs.CallTests.{decoderGiven, allDecoderGiven}
 use Rattle.link.proofs.Runs.{decoderCallsOf}
-use Rattle.link.proofs.OrderClaim.{order-claim}
+use Rattle.link_further.proofs.OrderClaim.{order-claim}
 use Rattle.ten_checks.specs.Checks.{since, told}
 use Rattle.ten_checks.proofs.TenChecks.{stateSince, leaves, same-told, stands, told-is}
 use Rattle.link_examples.specs.Examples.{acknowledge-62}

@@ -11,7 +11,7 @@ use Rattle.model.specs.Encoder.{emptyList}
 use Rattle.decoder.specs.Calls.{startCall}
 use Rattle.link.specs.Calls.{DecoderCall, read, collect, decoderAfter}
 use Rattle.link.specs.Happened.{Ready}
-use Rattle.link.specs.Collects.{collected, Within}
+use Rattle.link_further.specs.Collects.{collected, Within}
 
 -- n indexes from i on
 unfoldable pub indexes : ℕ → ℕ → List ℕ

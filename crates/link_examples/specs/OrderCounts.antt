@@ -1,4 +1,4 @@
--- Calls whose order counts, on memory and bytes: why the law on the order of reports (crates/link/specs/Order.antt) leaves them out. In whatever memory a
+-- Calls whose order counts, on memory and bytes: why the law on the order of reports (crates/link_further/specs/Order.antt) leaves them out. In whatever memory a
 -- decoder is started with limit 4,096; that there is such memory says ExamplesClaim's some-start.
 use mathlib.Core.Path.{_≡_}
 use Prim.Native.Nat.{ℕ}
@@ -8,7 +8,7 @@ use Rattle.memory.specs.Bytes.{Small}
 use Rattle.model.specs.Parts.{ended}
 use Rattle.decoder.specs.Calls.{startCall}
 use Rattle.link.specs.Calls.{DecoderCall, read, block, close, collect, decoderResult}
-use Rattle.link.specs.Order.{EitherWay, apart}
+use Rattle.link_further.specs.Order.{EitherWay, apart}
 use Rattle.ten_checks.specs.Checks.{since, told}
 use Rattle.link_examples.specs.Examples.{insert-9, delete-9, acknowledge-62}
 

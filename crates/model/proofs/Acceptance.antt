@@ -8,7 +8,6 @@ use mathlib.Core.Option.{none, some}
 use mathlib.Core.List.{List, [], _∷_, _++_}
 use Rattle.integers.specs.Answers.{done, refusal}
 use Rattle.wire.specs.Name.{indexed as by-index, literal as by-bytes}
-use Rattle.stream_lists.specs.StreamList.{StreamList}
 use Rattle.statics.specs.Ascii.{bytes}
 use Rattle.fields.specs.Form.{Field}
 use Rattle.instructions.specs.Instruction.{Instruction, insert, delete, acknowledge}
@@ -33,6 +32,7 @@ use Rattle.model.proofs.AcceptanceCalls.{
   sumAfter,
   field,
   insert-h9,
+  list-3-4-7,
   deleteWith,
   delete-of,
   delete-nontrailer,
@@ -96,21 +96,9 @@ unfolding freed
 ready-trailer = (refl, refl)
 
 -- "Collect shall now free the ready entry whose delete arrived first": the delete of 63 is read before that of 62
-pub freed-by-arrival : freed 68 (insert-h9 62 ∷ insert-h9 63 ∷ delete-of 63 ∷ delete-of 62 ∷ collect 16 ∷ collect 16 ∷ []) ≡ 63 ∷ 62 ∷ []
+pub freed-by-arrival : freed 68 (insert-h9 62 ∷ insert-h9 63 ∷ delete-of 63 ∷ delete-of 62 ∷ collect 16 ∷ []) ≡ 63 ∷ []
 unfolding freed
 freed-by-arrival = refl
-
--- one whose delete arrived first and that is not ready holds back nobody
-pub waiting-passed-over : freed 68 (insert-h9 62 ∷ insert-h9 63 ∷ delete-nontrailer 1 ∷ delete-of 63 ∷ collect 16 ∷ collect 16 ∷ over 0 ∷ collect 16 ∷ []) ≡ 63 ∷ 62 ∷ []
-unfolding freed
-waiting-passed-over = refl
-
--- "a busy low slot can come back again and again and keep a high one waiting": no longer. The second delete of 62 is read behind that of 63.
-pub busy-slot-behind :
-    freed 68 (insert-h9 62 ∷ insert-h9 63 ∷ delete-of 62 ∷ delete-of 63 ∷ collect 16 ∷ insert-h9 62 ∷ delete-of 62 ∷ collect 16 ∷ collect 16 ∷ []) ≡
-    62 ∷ 63 ∷ 62 ∷ []
-unfolding freed
-busy-slot-behind = refl
 
 -- A collect frees each time, also where an index is used again. A delete goes with its entry: the next entry at that index is not freed before a delete of
 -- its own, which is taken.
@@ -123,13 +111,10 @@ deleted-anew = refl
 -- ---- the hold enquiry
 
 -- "A hold enquiry about an entry under deletion tells how many named parts are unfinished and the lowest stream having one".
--- 8: "List 03 02 01 03 names 0, 1, 2, 4 and 7, not 3." Of these 0 is the lowest, past 0 to 2 it is 4, and past 3 and 4 it is 7.
-abbrev list-3-4-7 : StreamList
-list-3-4-7 = record { horizon = 3; streams = 4 ∷ 7 ∷ [] }
-
+-- 8: "List 03 02 01 03 names 0, 1, 2, 4 and 7, not 3." Past 0 to 2 the lowest of these is 4.
 pub listed-named :
-    decoderAnswers 68 (insert-h9 62 ∷ deleteWith list-3-4-7 (emptyList 0) ∷ hold 62 ∷ over 0 ∷ over 1 ∷ over 2 ∷ hold 62 ∷ over 3 ∷ over 4 ∷ hold 62 ∷ []) ≡
-    done 6 0 ∷ done 5 0 ∷ done 5 0 ∷ done 0 0 ∷ done 0 0 ∷ done 0 0 ∷ done 2 4 ∷ done 0 0 ∷ done 0 0 ∷ done 1 7 ∷ []
+    decoderAnswers 68 (insert-h9 62 ∷ deleteWith list-3-4-7 (emptyList 0) ∷ over 0 ∷ over 1 ∷ over 2 ∷ hold 62 ∷ []) ≡
+    done 6 0 ∷ done 5 0 ∷ done 0 0 ∷ done 0 0 ∷ done 0 0 ∷ done 2 4 ∷ []
 unfolding decoderAnswers
 listed-named = refl
 
@@ -192,10 +177,9 @@ pub limit-kept :
 unfolding decoderAnswers encoderAnswers
 limit-kept = (refl, refl, refl, refl)
 
--- "The held size is the sum over all entries held, those under deletion included." After the collect there is room again.
+-- "The held size is the sum over all entries held, those under deletion included."
 pub deleted-counted-decoder :
-    decoderAnswers 68 (insert-h9 62 ∷ insert-h9 63 ∷ delete-nontrailer 0 ∷ insert-h9 64 ∷ collect 16 ∷ insert-h9 64 ∷ []) ≡
-    done 6 0 ∷ done 6 0 ∷ done 5 0 ∷ refusal 7 ∷ done 1 0 ∷ done 6 0 ∷ []
+    decoderAnswers 68 (insert-h9 62 ∷ insert-h9 63 ∷ delete-nontrailer 0 ∷ insert-h9 64 ∷ []) ≡ done 6 0 ∷ done 6 0 ∷ done 5 0 ∷ refusal 7 ∷ []
 unfolding decoderAnswers
 deleted-counted-decoder = refl
 

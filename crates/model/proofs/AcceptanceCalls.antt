@@ -108,6 +108,10 @@ field name value = record { flag = 0; name = name; value = value }
 abbrev pub insert-h9 : ℕ → DecoderCall
 insert-h9 i = read (insert i (by-bytes (bytes "h")) (bytes "9")) 6
 
+-- 8: "List 03 02 01 03 names 0, 1, 2, 4 and 7, not 3."
+abbrev pub list-3-4-7 : StreamList
+list-3-4-7 = record { horizon = 3; streams = 4 ∷ 7 ∷ [] }
+
 abbrev pub deleteWith : StreamList → StreamList → DecoderCall
 deleteWith first last = read (delete 62 first last) 5
 

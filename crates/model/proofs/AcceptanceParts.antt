@@ -3,9 +3,8 @@ use mathlib.Core.Path.{_≡_, refl}
 use mathlib.Core.List.{[], _∷_}
 use Rattle.integers.specs.Answers.{done, refusal}
 use Rattle.statics.specs.Ascii.{bytes}
-use Rattle.model.specs.DecoderCalls.{collect}
 use Rattle.model.specs.EncoderCalls as at-encoder
-use Rattle.model.proofs.AcceptanceCalls.{decoderAnswers, encoderAnswers, field, insert-h9, delete-nontrailer, interim, trailer-block, over, ended, refers-62}
+use Rattle.model.proofs.AcceptanceCalls.{decoderAnswers, encoderAnswers, field, insert-h9, interim, trailer-block, over, ended, refers-62}
 use Rattle.model.proofs.AcceptanceCalls.{put-h9, says-none}
 
 -- "A waiting block is kept by the host and offered again." It waits for 62, changes nothing, and is done once 62 is there. So is a trailer, which
@@ -46,10 +45,3 @@ pub ended-both :
     decoderAnswers 68 (interim 0 ∷ ended 0 ∷ interim 0 ∷ trailer-block 0 ∷ ended 0 ∷ []) ≡ done 0 0 ∷ done 0 0 ∷ refusal 11 ∷ refusal 11 ∷ done 0 0 ∷ []
 unfolding decoderAnswers
 ended-both = refl
-
--- "With our rule a slot was freed after the first of three blocks." Two of them are interim answers; a collect frees once the part is over.
-pub interim-kept :
-    decoderAnswers 68 (insert-h9 62 ∷ refers-62 0 16 ∷ delete-nontrailer 1 ∷ collect 16 ∷ refers-62 0 16 ∷ refers-62 0 16 ∷ over 0 ∷ collect 16 ∷ []) ≡
-    done 6 0 ∷ done 5 0 ∷ done 5 0 ∷ done 0 0 ∷ done 5 0 ∷ done 5 0 ∷ done 0 0 ∷ done 1 0 ∷ []
-unfolding decoderAnswers
-interim-kept = refl

@@ -1,14 +1,15 @@
 -- What a call leaves is what its definition says, once its kind and its bytes are known.
-use Prim.Native.Nat.{ℕ, _≤_}
-use mathlib.Core.Path.{_≡_, refl, sym, subst, ap, _∙_}
-use mathlib.Core.List.{List, _++_, append-nil}
-use lib.ListN.{length, take, drop, drop-of-length-le}
-use lib.Seq.{take-all}
+use Prim.Native.Nat.{ℕ}
+use mathlib.Core.Path.{_≡_, sym, subst, ap, _∙_}
+use mathlib.Core.List.{List, _++_}
+use lib.ListN.{length, take, drop}
 use Rattle.integers.specs.Answers.{Answer}
 use Rattle.reply.specs.Result.{Result}
 use Rattle.encoder.specs.Calls.{insertCall}
 use Rattle.recording.specs.declared.Call.{Call}
 use Rattle.recording.specs.declared.Kind.{Kind}
+use Rattle.recorded_parts.specs.Lent.{lentOf}
+use Rattle.recorded_parts.proofs.Lending.{lent-bytes, left-bytes}
 use Rattle.recorded_call.specs.Performed.{Performed, performedAs, performed}
 
 -- the answer, both memories and the output, as a contract has them
@@ -29,9 +30,10 @@ split-at m name value s at out p q = ap (λ (x : List ℕ). insertCall m x value
 abbrev pub LeavesIn : Performed → List ℕ → Answer → List ℕ → List ℕ → List ℕ → Type 0
 LeavesIn p rest a d e out = (a ≡ p .answer) × ((d ≡ p .decoder) × ((e ≡ p .encoder) × (out ≡ p .output ++ rest)))
 
--- a room that is not below the output's length lends all of it
-pub all-lent : (call : Call) (bytes d e out : List ℕ) {a : Answer} {d' e' out' : List ℕ} → length out ≤ call .room → Leaves (performed call bytes d e out) a d' e' out'
+-- the lent part is the first bytes of the output, as many as the room says
+pub as-lent : (call : Call) (bytes d e out : List ℕ) (n : ℕ) {a : Answer} {d' e' out' : List ℕ} → n ≡ lentOf (call .room) (length out)
+    → LeavesIn (performed call bytes d e (take n out)) (drop n out) a d' e' out'
     → LeavesIn (performed call bytes d e (take (call .room) out)) (drop (call .room) out) a d' e' out'
-all-lent call bytes d e out {a} {d'} {e'} {out'} h (p, (q, (r, s))) =
-    subst (λ (x : List ℕ). LeavesIn (performed call bytes d e x) (drop (call .room) out) a d' e' out') (sym (take-all (call .room) out h))
-    (subst (λ (x : List ℕ). LeavesIn (performed call bytes d e out) x a d' e' out') (sym (drop-of-length-le out h)) (p, (q, (r, s ∙ sym (append-nil _)))))
+as-lent call bytes d e out n {a} {d'} {e'} {out'} k h =
+    subst (λ (x : List ℕ). LeavesIn (performed call bytes d e x) (drop (call .room) out) a d' e' out') (ap (λ (i : ℕ). take i out) k ∙ lent-bytes (call .room) out)
+    (subst (λ (x : List ℕ). LeavesIn (performed call bytes d e (take n out)) x a d' e' out') (ap (λ (i : ℕ). drop i out) k ∙ left-bytes (call .room) out) h)

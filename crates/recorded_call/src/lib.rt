@@ -4,30 +4,13 @@ ghost use mathlib.Core.List.{_++_};
 ghost use lib.ListN.{take, drop};
 ghost use Rattle.reply.specs.Reply.{answerOf};
 ghost use Rattle.recorded_call.specs.Performed.{performed};
+use recorded_parts::behind;
+use recorded_parts::first;
+use recorded_parts::lent;
+use recorded_parts::own;
 use recording::Call;
 use recording::Kind;
 use reply::Reply;
-
-// The first `n` bytes, or all where there are not so many.
-fn first<'a>(s: &'a [u8], n: usize) -> &'a [u8]
-    ensures { λ r. ⌜ now r ≡ take n (now (s .entry)) ⌝ }
-{
-    if n < s.len() {
-        return &s[..n];
-    }
-    s
-}
-
-// What stands behind the first `n` bytes.
-fn behind<'a>(s: &'a [u8], n: usize) -> &'a [u8]
-    ensures { λ r. ⌜ now r ≡ drop n (now (s .entry)) ⌝ }
-{
-    if n < s.len() {
-        return &s[n..];
-    }
-    let end = s.len();
-    &s[end..]
-}
 
 // The call on the memory of its end; the other end's is left as it is.
 pub fn perform(
@@ -43,7 +26,7 @@ pub fn perform(
     ensures { λ _. ⌜ now (output .exit) ≡ performed call (now (bytes .entry)) (now (decoder .entry)) (now (encoder .entry)) (now (output .entry)) .output ⌝ }
 {
     let kind = call.kind;
-    let s = first(bytes, call.end);
+    let s = own(call, bytes);
     match kind {
         Kind::DecoderStart => decoder::start::start(decoder, call.first),
         Kind::DecoderRead => decoder_read::read::read(decoder, s),
@@ -92,9 +75,6 @@ pub fn perform_within(
     ensures { λ _. ⌜ now (encoder .exit) ≡ performed call (now (bytes .entry)) (now (decoder .entry)) (now (encoder .entry)) (take (call .room) (now (output .entry))) .encoder ⌝ }
     ensures { λ _. ⌜ now (output .exit) ≡ performed call (now (bytes .entry)) (now (decoder .entry)) (now (encoder .entry)) (take (call .room) (now (output .entry))) .output ++ drop (call .room) (now (output .entry)) ⌝ }
 {
-    let room = call.room;
-    if room < output.len() {
-        return perform(call, bytes, decoder, encoder, &mut output[..room]);
-    }
-    perform(call, bytes, decoder, encoder, output)
+    let n = lent(call, output.len());
+    perform(call, bytes, decoder, encoder, &mut output[..n])
 }

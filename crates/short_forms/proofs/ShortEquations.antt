@@ -10,10 +10,10 @@ use Rattle.integers.specs.Integer.{shortIntAt}
 use Rattle.integers.specs.declared.integer.WireInt.{WireInt}
 use Rattle.integers.specs.declared.integer.ShortInt.{ShortInt}
 use Rattle.integers.specs.declared.integer.ShortInt.the-variants.{Value, Other as NoInt}
-use Rattle.wire.specs.Short.{shortStringAt}
 use Rattle.wire.specs.declared.text.StringPlace.{StringPlace}
-use Rattle.wire.specs.declared.text.ShortString.{ShortString}
-use Rattle.wire.specs.declared.text.ShortString.the-variants.{Found as StringFound, Other as NoString}
+use Rattle.short_strings.specs.Short.{shortStringAt}
+use Rattle.short_strings.specs.declared.short.ShortString.{ShortString}
+use Rattle.short_strings.specs.declared.short.ShortString.the-variants.{Found as StringFound, Other as NoString}
 use Rattle.short_forms.specs.Short.{shortLength, shortIndexAt, shortLiteralAt, shortNamedAt}
 use Rattle.short_forms.specs.declared.short.ShortIndex.the-variants.{Found as IndexFound, Other as NoIndex}
 use Rattle.short_forms.specs.declared.short.ShortLength.{ShortLength}

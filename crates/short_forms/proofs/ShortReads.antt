@@ -13,13 +13,13 @@ use Rattle.integers.specs.declared.integer.ShortInt.the-variants.{Value, Other 
 use Rattle.integers.proofs.Groups.{readInt-small}
 use Rattle.integers.proofs.Short.{short-int-reads}
 use Rattle.wire.specs.Text.{plainPlace}
-use Rattle.wire.specs.Short.{shortStringAt}
 use Rattle.wire.specs.declared.text.StringPlace.{StringPlace}
-use Rattle.wire.specs.declared.text.ShortString.{ShortString}
-use Rattle.wire.specs.declared.text.ShortString.the-variants.{Found as StringFound, Other as NoString}
 use Rattle.wire.specs.declared.name.NamePlace.the-variants.{Index, Text}
 use Rattle.wire.proofs.Strings.{name-index, name-text}
-use Rattle.wire.proofs.ShortStrings.{GoodShort, short-string-good, short-string-found}
+use Rattle.short_strings.specs.Short.{shortStringAt}
+use Rattle.short_strings.specs.declared.short.ShortString.{ShortString}
+use Rattle.short_strings.specs.declared.short.ShortString.the-variants.{Found as StringFound, Other as NoString}
+use Rattle.short_strings.proofs.ShortStrings.{GoodShort, short-string-good, short-string-found}
 use Rattle.blocks.specs.Reading.{flagOf, readRepresentation}
 use Rattle.short_forms.specs.Short.{shortIndexAt, shortLiteralAt, shortNamedAt}
 use Rattle.blocks.specs.declared.read.RepresentationPlace.the-variants.{Indexed, Literal}

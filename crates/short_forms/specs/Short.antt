@@ -5,7 +5,7 @@ use lib.ListN.{length, getD}
 use lib.Dec.{ltb, leb, eqb}
 use Rattle.memory.specs.Choice.{need}
 use Rattle.integers.specs.Integer.{shortIntAt, onShortInt}
-use Rattle.wire.specs.Short.{shortStringAt, onShortString}
+use Rattle.short_strings.specs.Short.{shortStringAt, onShortString}
 use Rattle.short_forms.specs.declared.short.ShortIndex.{ShortIndex}
 use Rattle.short_forms.specs.declared.short.ShortIndex.the-variants.{Found as IndexFound, Other as NoIndex}
 use Rattle.short_forms.specs.declared.short.ShortLength.{ShortLength}

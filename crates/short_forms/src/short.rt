@@ -13,10 +13,10 @@ use integers::byte::wide;
 use integers::integer::ShortInt;
 use integers::integer::WireInt;
 use integers::number::TableIndex;
+use short_strings::short::ShortString;
+use short_strings::short::short_string;
 use wire::name::NamePlace;
-use wire::text::ShortString;
 use wire::text::StringPlace;
-use wire::text::short_string;
 
 // What looking for a short index finds: the index and the place after it, or that none stands there.
 pub enum ShortIndex {

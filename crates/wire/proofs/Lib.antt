@@ -1,7 +1,5 @@
 pub mod Strings
-pub mod ShortStrings
 pub mod TextWriting
-pub mod TextRoom
 pub mod TextBounds
 pub mod TextBack
 pub mod TextKept

@@ -1,3 +1,3 @@
-// What the draft writes with prefix integers: strings and names, read and written.
+// What the draft writes with prefix integers: strings and names, read.
 pub mod name;
 pub mod text;

@@ -1,16 +1,11 @@
 // Names in inserts and literals: an index, or, where the index is 0, a string that follows it.
 ghost use mathlib.Core.Path.{_≡_};
-ghost use Prim.Native.Nat.{ℕ, _+_, _^_, _≤_};
-ghost use lib.ListN.{length};
-ghost use Rattle.memory.specs.Bytes.{overlay};
-ghost use Rattle.integers.specs.Integer.{largest};
-ghost use Rattle.wire.specs.Text.{nameLimit};
-ghost use Rattle.wire.specs.Name.{Name, nameAnswer, readName, nameWire};
+ghost use Prim.Native.Nat.{ℕ, _≤_};
+ghost use Rattle.wire.specs.Name.{nameAnswer, readName};
 use crate::text::NAME_LIMIT;
 use crate::text::StringPlace;
 use crate::text::StringRead;
 use crate::text::read_string;
-use crate::text::write_string;
 use integers::answer::DONE;
 use integers::integer::IntRead;
 use integers::integer::WireInt;
@@ -57,29 +52,4 @@ pub fn read_name(s: &[u8], at: usize, width: u32) -> NameRead
         return NameRead::Refused(t.number());
     };
     NameRead::Found(NamePlace::Text(place), after)
-}
-
-// Writes a name by its index, and answers the place after it.
-pub fn write_name_index(index: TableIndex, out: &mut [u8], at: usize, width: u32, top: u32) -> usize
-    requires { ⌜ (width ≤ 8) × (top + 2 ^ width ≤ 256) ⌝ }
-    requires { ⌜ index .value ≤ largest ⌝ }
-    requires { ⌜ at + length (nameWire width top (Name.indexed (index .value))) ≤ length (now out) ⌝ }
-    ensures { λ r. ⌜ r ≡ at + length (nameWire width top (Name.indexed (index .value))) ⌝ }
-    ensures { λ _. ⌜ now (out .exit) ≡ overlay (now (out .entry)) at (nameWire width top (Name.indexed (index .value))) ⌝ }
-{
-    let n = WireInt::new(index.value);
-    n.write(out, at, width, top)
-}
-
-// Writes a name by its bytes, and answers the place after it.
-pub fn write_name_text(name: &[u8], out: &mut [u8], at: usize, width: u32, top: u32) -> usize
-    requires { ⌜ (width ≤ 8) × (top + 2 ^ width ≤ 256) ⌝ }
-    requires { ⌜ length (now name) ≤ nameLimit ⌝ }
-    requires { ⌜ at + length (nameWire width top (Name.literal (now name))) ≤ length (now out) ⌝ }
-    ensures { λ r. ⌜ r ≡ at + length (nameWire width top (Name.literal (now (name .entry)))) ⌝ }
-    ensures { λ _. ⌜ now (out .exit) ≡ overlay (now (out .entry)) at (nameWire width top (Name.literal (now (name .entry)))) ⌝ }
-{
-    let zero = WireInt::new(0);
-    let next = zero.write(out, at, width, top);
-    write_string(name, out, next)
 }

@@ -1,0 +1,1 @@
+// No code: further claims over whole lists of calls, on memory and bytes.

@@ -1,0 +1,2 @@
+-- How much a call is lent.
+pub mod Lent

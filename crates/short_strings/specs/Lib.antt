@@ -1,0 +1,2 @@
+-- Where a short string stands.
+pub mod Short

@@ -1,0 +1,2 @@
+-- How a string is written.
+pub mod Room

@@ -1,0 +1,2 @@
+// Strings and names, written.
+pub mod write;
