@@ -41,7 +41,7 @@ extern "C" {
 #endif
 
 /* The version of the library that this header belongs to: major, minor, patch. */
-#define KOLOWROTAN_VERSION "1.5.0"
+#define KOLOWROTAN_VERSION "1.6.0"
 
 /* The answers. */
 enum kolowrotan_answer {
@@ -79,7 +79,8 @@ enum kolowrotan_answer {
 #define KOLOWROTAN_DECODER_LENGTH 35912
 #define KOLOWROTAN_ENCODER_LENGTH 16960
 
-/* The same as functions: a host may compare them with the header that it was compiled with. */
+/* The same as functions: a host may compare them with the header that it was compiled with. They do not tell another layout: state memory that a version up to
+   1.5.0 left is no state for this one, so a host that keeps it over an update starts both ends anew (docs/HOST.md). */
 size_t kolowrotan_decoder_length(void);
 size_t kolowrotan_encoder_length(void);
 

@@ -26,7 +26,7 @@ use parts::turn::Part;
 use parts::turn::Turn;
 use parts::turn::turn_of;
 use reply::Reply;
-use state::decoder::forms_decoder;
+use state_test::decoder::forms_decoder;
 use survey_reply::replied::replied;
 
 // The part with this number, of the two that there are.

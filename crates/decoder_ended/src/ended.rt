@@ -7,7 +7,7 @@ use integers::answer::OUT_OF_TURN;
 use integers::number::StreamNumber;
 use parts::close::close_both;
 use reply::Reply;
-use state::decoder::forms_decoder;
+use state_test::decoder::forms_decoder;
 
 pub fn ended(m: &mut [u8], stream: u64) -> Reply
     ensures { λ r. ⌜ answerOf r ≡ endedCall (now (m .entry)) stream .answer ⌝ }

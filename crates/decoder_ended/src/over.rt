@@ -7,8 +7,8 @@ use integers::answer::OUT_OF_TURN;
 use integers::number::StreamNumber;
 use marks::mark::clear;
 use reply::Reply;
-use state::decoder::forms_decoder;
 use state::layout::NONTRAILER_MARKS;
+use state_test::decoder::forms_decoder;
 
 pub fn over(m: &mut [u8], stream: u64) -> Reply
     ensures { λ r. ⌜ answerOf r ≡ overCall (now (m .entry)) stream .answer ⌝ }

@@ -10,8 +10,8 @@ use integers::answer::NOT_UNDER_DELETION;
 use integers::answer::VACANT;
 use integers::number::TableIndex;
 use reply::Reply;
-use state::decoder::forms_decoder;
 use state::row::status_at;
+use state_test::decoder::forms_decoder;
 use table_search::find::Found;
 use table_search::find::find;
 

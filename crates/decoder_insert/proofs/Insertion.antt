@@ -55,6 +55,7 @@ pub record Judgement (m : List ℕ) (x : ℕ) (name value : List ℕ) (n v : ℕ
   pub name-is : length name ≡ n
   pub value-is : length value ≡ v
   pub told : j ≡ judged m x (n + v + 32)
+  pub short : n ≤ 255
 
 module _ (m : List ℕ) (st : Stands m) (x : ℕ) (name value : List ℕ) (taken : ℕ) where
   abbrev model : Outcome Decoder
@@ -112,10 +113,10 @@ module _ (m : List ℕ) (st : Stands m) (x : ℕ) (name value : List ℕ) (taken
 
       -- "otherwise room is always found"
       pub insert-opening : Opening m place n v
-      insert-opening = changes m st .opening x place n v insert-vacant fits (room-claim .decoder m (st .forms) (n + v) fits)
+      insert-opening = changes m st .opening x place n v insert-vacant fits (room-claim .decoder m (st .forms) (n + v) fits) (J .short)
 
       pub insert-done : FineIndex x → Leaves (namedInsert m x name value taken) (done taken 0) (inserted m place x name value)
       insert-done fine =
           steps m model grown taken 0 _ (admitted .1)
           (changes m st .insert x place name value insert-vacant fine (omega (arith, fits, J .name-is, J .value-is))
-          (room-claim .decoder m (st .forms) (n + v) fits))
+          (room-claim .decoder m (st .forms) (n + v) fits) (omega (arith, J .name-is, J .short)))

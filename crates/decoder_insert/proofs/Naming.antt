@@ -38,6 +38,7 @@ module _ (m : List ℕ) (st : Stands m) where
       let C = changes m st in
       let below = C .here x row e .0 in
       let text = C .ordered .text row below in
+      let name = C .ordered .name row below in
       (omega (arith, C .ordered .few), omega arith, length-part m (textPlace + offsetAt m row) (nameLengthAt m row) (omega (arith, C .ordered .long)))
 
   module _ (y : ℕ) where

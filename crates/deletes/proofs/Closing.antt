@@ -16,6 +16,6 @@ module _ (m : List ℕ) (k n to from : ℕ) (e : n ≡ deleteCount m) (d : to �
       ap countOf q ∙ number-below 2 one countPlace deleteCountPlace (numberBytes 2 (n - 1)) (omega arith)
       ∙ ap countOf p ∙ number-below 2 m countPlace to (part m from (76 * (n - (k + 1)))) (omega arith)
 
-  pub drop-closed : (three : List ℕ) → three ≡ renumbered (k + 1) (countOf two) two 0 → three ≡ dropped m k
+  pub drop-closed : (three : List ℕ) → three ≡ renumbered (k + 1) (countOf two) two → three ≡ dropped m k
   unfolding dropped
   drop-closed three r = rw (← e, ← d, ← f, ← p, ← q, ← rows-kept) r

@@ -1,5 +1,4 @@
 -- The laws of `deletes`: plain values, for the functions' proofs and the crates above.
 pub mod Stored
 pub mod Listing
-pub mod Renumbering
 pub mod Closing

@@ -1,2 +1,2 @@
--- Deletes and references in memory.
+-- Deletes in memory.
 pub mod Deletes

@@ -7,6 +7,7 @@ ghost use Rattle.stream_lists.specs.StreamList.{InList, listOf};
 ghost use Rattle.state.specs.Layout.{frontLength, decoderLength, countOf, deleteCount};
 ghost use Rattle.state.specs.DecoderState.{streamsBytes, listBytes};
 ghost use Rattle.deletes.specs.Deletes.{appended, renumbered, Dropping, dropped};
+use columns::column::lower;
 use integers::number::TableIndex;
 use memory::copy::move_down;
 use memory::copy::put_zeros;
@@ -23,9 +24,9 @@ use state::kept::put_listed_count;
 use state::kept::trailer_list;
 use state::layout::DELETE_LENGTH;
 use state::layout::LISTED_BYTES;
+use state::layout::STATUSES;
 use state::layout::delete_place;
 use state::row::put_status;
-use state::row::status_at;
 use stream_lists::stream_list::DeltaRead;
 use stream_lists::stream_list::ListPlace;
 use stream_lists::stream_list::read_delta;
@@ -96,17 +97,10 @@ pub fn append_delete(
 // Rows that point behind a delete that goes point one place lower.
 fn renumber(m: &mut [u8], status: u16)
     requires { ⌜ (countOf (now m) ≤ 128) × (frontLength ≤ length (now m)) ⌝ }
-    ensures { λ _. ⌜ now (m .exit) ≡ renumbered status (countOf (now (m .entry))) (now (m .entry)) 0 ⌝ }
+    ensures { λ _. ⌜ now (m .exit) ≡ renumbered status (countOf (now (m .entry))) (now (m .entry)) ⌝ }
 {
     let count = count_of(m) as usize;
-    let mut i: usize = 0;
-    while i < count {
-        let old = status_at(m, i);
-        if status < old {
-            put_status(m, i, old - 1);
-        }
-        i += 1;
-    }
+    lower(m, STATUSES, count, status);
 }
 
 // Drops delete `k`: the deletes behind it close up.

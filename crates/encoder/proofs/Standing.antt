@@ -6,24 +6,21 @@ use native.Mathlib.Omega.{arith}
 use mathlib.Core.Bool.{true}
 use mathlib.Core.Option.{some}
 use mathlib.Core.List.{List}
-use lib.Dec.{eqb, leb}
 use lib.ListN.{length}
-use borrow.Author.Tests.{leb-true}
 use Rattle.memory.specs.Bytes.{Small}
 use Rattle.integers.specs.Answers.{refusal}
 use Rattle.model.specs.Table.{look}
 use Rattle.model.specs.Outcome.{outputBytes, refuse}
 use Rattle.model.specs.Encoder.{sentIndex}
-use Rattle.model_laws.proofs.Marks.{and-both}
 use Rattle.model_laws.proofs.Tables.{look-index}
-use Rattle.state.specs.Layout.{encoderLength, encoderRole, limitOf, countOf, deleteCount, indexAt, statusAt}
-use Rattle.state.specs.EncoderState.{nontrailerAt, trailerAt, sentOfRow, encoderOf, overlayEncoder}
-use Rattle.state.specs.Forms.{headOk, referenceOk, formsEncoder}
-use Rattle.state_laws.proofs.RowsTest.{asked-each}
+use Rattle.state.specs.Layout.{limitOf, indexAt, statusAt}
+use Rattle.state.specs.EncoderState.{nontrailerAt, trailerAt, sentAt, encoderOf, overlayEncoder}
+use Rattle.state.specs.Forms.{formsEncoder}
+use Rattle.state_laws.proofs.EncoderHolds.{holds-status}
 use Rattle.state_laws.proofs.EncoderForms.{forms-holds-encoder}
 use Rattle.state_laws.proofs.EncoderLaws.{encoder-laws}
 use Rattle.table_laws.specs.DecoderChanges.{found}
-use Rattle.table_laws.specs.EncoderChanges.{EncoderChanges, sentAt}
+use Rattle.table_laws.specs.EncoderChanges.{EncoderChanges}
 use Rattle.table_laws.proofs.EncoderClaim.{encoder-claim}
 use Rattle.reply.specs.Result.{refused, stepped}
 
@@ -33,8 +30,8 @@ pub record RowFound (m : List ℕ) (x place : ℕ) : Type 0 where
   pub index : indexAt m place ≡ x
   pub low : 62 ≤ x
   pub high : x ≤ 189
-  pub nontrailer : nontrailerAt m x ≤ 4096
-  pub trailer : trailerAt m x ≤ 4096
+  pub nontrailer : nontrailerAt m place ≤ 4096
+  pub trailer : trailerAt m place ≤ 4096
   pub status : statusAt m place ≤ 1
   pub looked : look sentIndex x (encoderOf m .entries) ≡ some (sentAt m place)
 
@@ -48,30 +45,21 @@ module _ (m : List ℕ) (small : Small m) (forms : formsEncoder m ≡ true) wher
   pub limit-low : limitOf m ≤ 4096
   limit-low = omega (arith, changes .limit, encoder-laws .fits m small forms .forms .limit)
 
-  status-low : (i : ℕ) → i < countOf m → statusAt m i ≤ 1
-  unfolding formsEncoder referenceOk
-  status-low i h =
-      let rows = and-both (eqb (deleteCount m) 0) _ (and-both (headOk encoderRole encoderLength m) _ forms .1) .1 in
-      leb-true (statusAt m i) 1
-      (and-both (leb (statusAt m i) 1) _ (asked-each (referenceOk m) m 189 (countOf m) 0 62 0 rows i (omega arith) (omega arith)) .0)
-
   -- a row that is found is that of a fine entry
   pub row-found : (x place : ℕ) → found m x place → RowFound m x place
-  unfolding sentOfRow
+  unfolding sentAt
   row-found x place f =
       let here = changes .here x place f in
       let at : indexAt m place ≡ x = look-index sentIndex x (encoderOf m .entries) (sentAt m place) (here .1) in
       let fine = encoder-laws .fits m small forms .forms .entries x (sentAt m place) (here .1) in
-      let nontrailer : nontrailerAt m (indexAt m place) ≤ 4096 = fine .nontrailer in
-      let trailer : trailerAt m (indexAt m place) ≤ 4096 = fine .trailer in
       record {
         below = omega (arith, changes .ordered .few, here .0);
         index = at;
         low = omega (arith, fine .low);
         high = omega (arith, fine .high);
-        nontrailer = rw at at nontrailer;
-        trailer = rw at at trailer;
-        status = status-low place (here .0);
+        nontrailer = fine .nontrailer;
+        trailer = fine .trailer;
+        status = holds-status (encoderOf m) m (forms-holds-encoder m small forms) place (here .0);
         looked = here .1;
       }
 

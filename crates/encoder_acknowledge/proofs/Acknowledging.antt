@@ -18,12 +18,12 @@ use Rattle.instructions.specs.declared.read.InstructionRead.the-variants.{Found
 use Rattle.model.specs.Table.{look, cut}
 use Rattle.model.specs.Outcome.{Outcome, nothing, refuse, finish, outputBytes}
 use Rattle.model.specs.Encoder.{Sent, sentIndex, Encoder, withSent, acknowledgeFound, readAck}
-use Rattle.state.specs.Layout.{statusAt}
-use Rattle.state.specs.EncoderState.{sentOfRow, encoderOf, overlayEncoder}
+use Rattle.state.specs.Layout.{countOf, statusAt}
+use Rattle.state.specs.EncoderState.{sentAt, encoderOf, overlayEncoder}
 use Rattle.state.specs.Forms.{formsEncoder}
 use Rattle.table.specs.Changes.{removed}
+use Rattle.horizons.specs.Horizons.{horizonsClosed}
 use Rattle.table_laws.specs.DecoderChanges.{found, missing}
-use Rattle.table_laws.specs.EncoderChanges.{sentAt}
 use Rattle.reply.specs.Result.{refused, stepped}
 use Rattle.encoder.specs.Calls.{acknowledged, acknowledgeCall}
 use Rattle.encoder.specs.Steps.{freed}
@@ -82,13 +82,14 @@ module _ (m : List ℕ) (small : Small m) (forms : formsEncoder m ≡ true) (x p
     looked = ack-looked E x taken (some (sentAt m place)) (row-found m small forms x place f .looked)
 
     pub freed-live : statusAt m place ≡ 0 → freed m x taken ≡ refused m [] not-under-deletion
-    unfolding sentOfRow
+    unfolding sentAt
     freed-live s =
         steps (refuse E not-under-deletion) (looked ∙ ack-live E x taken (sentAt m place) (ap (λ (y : ℕ). eqb y 1) s))
         ∙ stays m small forms [] not-under-deletion
 
-    pub freed-done : (statusAt m place ≡ 0 → ⊥) → freed m x taken ≡ record { answer = done taken 0; memory = removed m place; output = [] }
-    unfolding sentOfRow stepped outputBytes
+    pub freed-done : (statusAt m place ≡ 0 → ⊥)
+        → freed m x taken ≡ record { answer = done taken 0; memory = horizonsClosed (removed m place) place (countOf m); output = [] }
+    unfolding sentAt stepped outputBytes
     freed-done s =
         let row = row-found m small forms x place f in
         let one : statusAt m place ≡ 1 = omega (arith, row .status) in

@@ -19,7 +19,7 @@ use parts::turn::Part;
 use parts::turn::Turn;
 use parts::turn::turn_of;
 use reply::Reply;
-use state::encoder::forms_encoder;
+use state_test::encoder::forms_encoder;
 
 // A block in turn whose list reads well: 13, 12, or its bytes, its references, and what it closes is closed.
 fn give(m: &mut [u8], stream: StreamNumber, part: Part, s: &[u8], out: &mut [u8]) -> Reply

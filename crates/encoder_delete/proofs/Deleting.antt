@@ -19,11 +19,10 @@ use Rattle.model.specs.Table.{look}
 use Rattle.model.specs.Outcome.{Outcome, refuse, finish, instruction, outputBytes}
 use Rattle.model.specs.Encoder.{Sent, sentIndex, Encoder, withSent, emptyList, markDeleted, deleteOfSent, deleteFound, deleteSent}
 use Rattle.state.specs.Layout.{statusPlace, statusAt}
-use Rattle.state.specs.EncoderState.{nontrailerAt, trailerAt, sentOfRow, encoderOf, overlayEncoder}
+use Rattle.state.specs.EncoderState.{nontrailerAt, trailerAt, sentAt, encoderOf, overlayEncoder}
 use Rattle.state.specs.Forms.{formsEncoder}
 use Rattle.table_rows.specs.Rows.{statusSet}
 use Rattle.table_laws.specs.DecoderChanges.{found, missing}
-use Rattle.table_laws.specs.EncoderChanges.{sentAt}
 use Rattle.sizes.specs.Sizes.{deleteSize}
 use Rattle.sizes.proofs.Lengths.{delete-size}
 use Rattle.reply.specs.Result.{refused, stepped}
@@ -98,7 +97,7 @@ module _ (m : List ℕ) (small : Small m) (forms : formsEncoder m ≡ true) (i :
           (index-looked E i (length out) l k none (changes m small forms .nowhere i place f) ∙ looked-none E (length out))
 
       pub delete-deleted : found m i place → (statusAt m place ≡ 0 → ⊥) → deleteCall m i out ≡ refused m out under-deletion
-      unfolding sentOfRow
+      unfolding sentAt
       delete-deleted f s =
           let row = row-found m small forms i place f in
           let one : statusAt m place ≡ 1 = omega (arith, row .status) in
@@ -113,7 +112,7 @@ module _ (m : List ℕ) (small : Small m) (forms : formsEncoder m ≡ true) (i :
 
 -- ---- the entry with index x, found and not under deletion: its horizons are p and t, and n is the length of its delete
 module _ (m : List ℕ) (small : Small m) (forms : formsEncoder m ≡ true) (x place : ℕ) (f : found m x place) (live : statusAt m place ≡ 0)
-    (p t n : ℕ) (nontrailer-is : p ≡ nontrailerAt m x) (trailer-is : t ≡ trailerAt m x) (s : n ≡ deleteSize x p t) where
+    (p t n : ℕ) (nontrailer-is : p ≡ nontrailerAt m place) (trailer-is : t ≡ trailerAt m place) (s : n ≡ deleteSize x p t) where
   abbrev said : Instruction
   said = delete x (emptyList p) (emptyList t)
 
@@ -129,18 +128,16 @@ module _ (m : List ℕ) (small : Small m) (forms : formsEncoder m ≡ true) (x p
       )
 
   index-is : sentAt m place .index ≡ x
-  unfolding sentOfRow
+  unfolding sentAt
   index-is = row-found m small forms x place f .index
 
   lives : sentAt m place .deleted ≡ false
-  unfolding sentOfRow
+  unfolding sentAt
   lives = ap (λ (y : ℕ). eqb y 1) live
 
   says : deleteOfSent (sentAt m place) ≡ said
-  unfolding sentOfRow
-  says =
-      ap (λ (y : ℕ). delete y (emptyList (nontrailerAt m y)) (emptyList (trailerAt m y))) index-is
-      ∙ (λ k. delete x (emptyList (sym nontrailer-is k)) (emptyList (sym trailer-is k)))
+  unfolding sentAt
+  says = λ k. delete (index-is k) (emptyList (sym nontrailer-is k)) (emptyList (sym trailer-is k))
 
   wire-length : length (instructionWire (deleteOfSent (sentAt m place))) ≡ n
   wire-length = ap (λ (d : Instruction). length (instructionWire d)) says ∙ said-length

@@ -17,13 +17,13 @@ use integers::answer::VACANT;
 use integers::number::TableIndex;
 use reply::Reply;
 use sizes::delete_size;
-use state::encoder::forms_encoder;
 use state::kept::horizon_at;
-use state::reference::nontrailer_reference;
-use state::reference::trailer_reference;
+use state::reference::nontrailer_place;
+use state::reference::trailer_place;
 use state::row::DELETED;
 use state::row::put_status;
 use state::row::status_at;
+use state_test::encoder::forms_encoder;
 use table_search::find::Found;
 use table_search::find::find;
 
@@ -35,8 +35,8 @@ fn delete_found(m: &mut [u8], index: TableIndex, place: usize, out: &mut [u8]) -
     ensures { λ _. ⌜ now (m .exit) ≡ foundDelete (now (m .entry)) place (now (out .entry)) .memory ⌝ }
     ensures { λ _. ⌜ now (out .exit) ≡ foundDelete (now (m .entry)) place (now (out .entry)) .output ⌝ }
 {
-    let nontrailer = horizon_at(m, nontrailer_reference(index)) as u32;
-    let trailer = horizon_at(m, trailer_reference(index)) as u32;
+    let nontrailer = horizon_at(m, nontrailer_place(place)) as u32;
+    let trailer = horizon_at(m, trailer_place(place)) as u32;
     let n = delete_size(index, nontrailer, trailer);
     if out.len() < n {
         return Reply::refused(NO_ROOM);

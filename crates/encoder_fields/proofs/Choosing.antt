@@ -22,8 +22,8 @@ use Rattle.model_laws.proofs.Marks.{and-both}
 use Rattle.model_laws.proofs.Tables.{pick-yes, pick-no}
 use Rattle.state.specs.Layout.{encoderLength, encoderRole, countOf, deleteCount, indexAt}
 use Rattle.state.specs.Rows.{rowsOf}
-use Rattle.state.specs.EncoderState.{sentOfRow, encoderOf}
-use Rattle.state.specs.Forms.{headOk, referenceOk, formsEncoder}
+use Rattle.state.specs.EncoderState.{sentAt, encoderOf}
+use Rattle.state.specs.Forms.{headOk, rowsOk, formsEncoder}
 use Rattle.state_laws.proofs.RowsTest.{GoodRows, rows-each}
 use Rattle.table_search.specs.Search.{Ordered}
 use Rattle.name_search.specs.Names.{servesAt, servesBothAt, lowestRow}
@@ -101,10 +101,10 @@ module _ (m : List ℕ) (small : Small m) (forms : formsEncoder m ≡ true) wher
   pub row-index : (place : ℕ) → place < countOf m → (place < 128) × (62 ≤ indexAt m place) × (indexAt m place ≤ 189)
   unfolding formsEncoder
   row-index place h =
-      let rows = and-both (eqb (deleteCount m) 0) _ (and-both (headOk encoderRole encoderLength m) _ forms .1) .1 in (
+      let rows = and-both (rowsOk m 189 (countOf m)) _ (and-both (eqb (deleteCount m) 0) _ (and-both (headOk encoderRole encoderLength m) _ forms .1) .1) .0 in (
         omega (arith, ordered .few),
         omega (arith, ordered .low place h),
-        rows-below 189 62 (countOf m) 0 (rows-each (referenceOk m) m 189 (countOf m) 0 62 0 rows) place (omega arith) (omega arith),
+        rows-below 189 62 (countOf m) 0 (rows-each m 189 (countOf m) rows small) place (omega arith) (omega arith),
       )
 
   module _ (name : List ℕ) where
@@ -113,7 +113,7 @@ module _ (m : List ℕ) (small : Small m) (forms : formsEncoder m ≡ true) wher
 
     pub dynamic-row : (place : ℕ) → lowestRow (servesAt m name) (countOf m) 0 ≡ Row place → (i : TableIndex) → i ≡ record { value = indexAt m place }
         → by-index (i .value) ≡ dynamicName name (first (serves name) (encoderOf m .entries))
-    unfolding dynamicName sentOfRow
+    unfolding dynamicName sentAt
     dynamic-row place e i d = ap (λ (i : TableIndex). by-index (i .value)) d ∙ sym (ap (dynamicName name) (C .serving name place e .1))
 
     pub dynamic-none : lowestRow (servesAt m name) (countOf m) 0 ≡ Nothing
@@ -127,7 +127,7 @@ module _ (m : List ℕ) (small : Small m) (forms : formsEncoder m ≡ true) wher
   module _ (f : Field) (n : f .flag ≡ 1 → ⊥) (gone : findBoth (f .name) (f .value) ≡ NotStatic) where
     pub choose-row : (place : ℕ) → lowestRow (servesBothAt m (f .name) (f .value)) (countOf m) 0 ≡ Row place
         → (i : TableIndex) → i ≡ record { value = indexAt m place } → indexed (i .value) ≡ choose (encoderOf m .entries) f
-    unfolding dynamicField sentOfRow
+    unfolding dynamicField sentAt
     choose-row place e i d =
         ap (λ (i : TableIndex). indexed (i .value)) d
         ∙ sym (dynamic-field (encoderOf m .entries) f n gone _ (C .servingBoth (f .name) (f .value) place e .1))

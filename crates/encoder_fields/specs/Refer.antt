@@ -12,8 +12,12 @@ use Rattle.model.specs.Table.{look}
 use Rattle.model.specs.Parts.{Part}
 use Rattle.model.specs.Decoder.{isSome}
 use Rattle.model.specs.Encoder.{Sent, sentIndex, withSent, refer}
+use Rattle.state.specs.Layout.{countOf}
 use Rattle.state.specs.EncoderState.{encoderOf, overlayEncoder}
-use Rattle.deletes.specs.Deletes.{raised}
+use Rattle.table_search.specs.Search.{findFrom}
+use Rattle.table_search.specs.declared.find.Found.{Found}
+use Rattle.table_search.specs.declared.find.Found.the-variants.{At, Vacant}
+use Rattle.horizons.specs.Horizons.{raised}
 use Rattle.encoder_fields.specs.declared.choice.Choice.{Choice}
 use Rattle.encoder_fields.specs.declared.choice.Choice.the-variants.{Indexed, Named, Literal}
 
@@ -25,9 +29,14 @@ AllHeld l rs = (i : ℕ) → Refers rs i → 62 ≤ i → isSome (look sentIndex
 unfoldable pub entered : List ℕ → ℕ → Part → List Representation → List ℕ
 entered m stream part rs = overlayEncoder (withSent (encoderOf m) (map (refer stream part rs) (encoderOf m .entries))) m
 
+-- the horizon of the row that was found raised
+abbrev pub enteredAt : List ℕ → ℕ → Part → Found → List ℕ
+enteredAt m stream part (At place) = raised m place part stream
+enteredAt m stream part (Vacant place) = m
+
 -- one of them: static entries have no horizon
 unfoldable pub enteredOne : List ℕ → ℕ → Part → ℕ → List ℕ
-enteredOne m stream part index = pick (ltb index 62) m (raised m index part stream)
+enteredOne m stream part index = pick (ltb index 62) m (enteredAt m stream part (findFrom m index (countOf m) 0))
 
 -- that of a representation, if it names an index
 abbrev pub enteredBy : List ℕ → ℕ → Part → Representation → List ℕ
@@ -40,9 +49,3 @@ abbrev pub enteredChoice : List ℕ → ℕ → Part → Choice → List ℕ
 enteredChoice m stream part (Indexed i) = enteredOne m stream part (i .value)
 enteredChoice m stream part (Named i) = enteredOne m stream part (i .value)
 enteredChoice m stream part Literal = m
-
--- the index that it names has a reference, or is static
-abbrev pub InTable : Choice → Type 0
-InTable (Indexed i) = i .value ≤ 189
-InTable (Named i) = i .value ≤ 189
-InTable Literal = Unit {0}

@@ -21,7 +21,7 @@ use Rattle.state.specs.Forms.{formsEncoder}
 use Rattle.table_search.specs.Search as memory
 use Rattle.table.specs.Changes.{inserted}
 use Rattle.table_laws.proofs.Room.{room-claim}
-use Rattle.deletes.specs.Deletes.{unreferred}
+use Rattle.horizons.specs.Horizons.{horizonsOpened}
 use Rattle.reply.specs.Result.{refused, stepped}
 use Rattle.encoder.specs.Calls.{insertCall}
 use Rattle.encoder_insert.specs.Steps.{Fitting, fittingInsert}
@@ -114,7 +114,7 @@ module _ (m : List ℕ) (small : Small m) (forms : formsEncoder m ≡ true) (nam
   pub fitting-place : Fitting m name value → memory.vacantRow m (countOf m) 0 < 128
   fitting-place f =
       let few = place-left (fitting-held f) in
-      omega (arith, changes m small forms .opening (length name) (length value) (fitting-held f) few .below)
+      omega (arith, changes m small forms .opening (length name) (length value) (fitting-held f) few (f .name-short) .below)
 
   -- ---- an entry that fits, its index i at the lowest vacant place, its name as chosen
   module _ (place i : ℕ) (p : place ≡ memory.vacantRow m (countOf m) 0) (q : i ≡ 62 + place)
@@ -132,27 +132,27 @@ module _ (m : List ℕ) (small : Small m) (forms : formsEncoder m ≡ true) (nam
         ∙ stays m small forms out no-room
 
     -- the memory that the entry put in leaves
-    entered : heldOf m + (length name + length value + 32) ≤ 4096
-        → overlayEncoder (withSent E (put sentIndex (newSent i name value) (E .entries))) m ≡ unreferred (inserted m place i name value) i
-    entered h =
+    entered : heldOf m + (length name + length value + 32) ≤ 4096 → length name ≤ 255
+        → overlayEncoder (withSent E (put sentIndex (newSent i name value) (E .entries))) m ≡ horizonsOpened (inserted m place i name value) place (countOf m)
+    entered h short =
         ap (λ (j : ℕ). overlayEncoder (withSent E (put sentIndex (newSent j name value) (E .entries))) m) (sym vacant)
-        ∙ sym (changes m small forms .insert name value h (place-left h))
-        ∙ ap (λ (j : ℕ). unreferred (inserted m j (62 + j) name value) (62 + j)) (sym p)
-        ∙ ap (λ (j : ℕ). unreferred (inserted m place j name value) j) (sym q)
+        ∙ sym (changes m small forms .insert name value h (place-left h) short)
+        ∙ ap (λ (j : ℕ). horizonsOpened (inserted m j (62 + j) name value) j (countOf m)) (sym p)
+        ∙ ap (λ (j : ℕ). horizonsOpened (inserted m place j name value) place (countOf m)) (sym q)
 
-    pub fitting-done : n ≤ length out → heldOf m + (length name + length value + 32) ≤ 4096
+    pub fitting-done : n ≤ length out → heldOf m + (length name + length value + 32) ≤ 4096 → length name ≤ 255
         → fittingInsert m name value out
         ≡ record {
           answer = done n i;
-          memory = unreferred (inserted m place i name value) i;
+          memory = horizonsOpened (inserted m place i name value) place (countOf m);
           output = overlay out 0 (instructionWire (insert i chosen value));
         }
     unfolding stepped outputBytes
-    fitting-done h k =
+    fitting-done h k short =
         fits-at
         ∙ ap (λ (o : Outcome Encoder). stepped overlayEncoder m out o) (at-room E name value (length out) i chosen e (omega arith))
         ∙ (λ t. record {
           answer = done (sym s t) i;
-          memory = entered k t;
+          memory = entered k short t;
           output = overlay out 0 (instructionWire (insert i chosen value));
         })

@@ -8,14 +8,14 @@ ghost use Rattle.state.specs.Layout.{countOf, heldOf};
 ghost use Rattle.state.specs.Forms.{formsEncoder};
 ghost use Rattle.table_search.specs.Search.{vacantRow};
 ghost use Rattle.table.specs.Changes.{inserted};
-ghost use Rattle.deletes.specs.Deletes.{unreferred};
+ghost use Rattle.horizons.specs.Horizons.{horizonsOpened};
 ghost use Rattle.sizes.specs.Sizes.{insertIndexSize, insertTextSize};
 ghost use Rattle.reply.specs.Reply.{answerOf};
 ghost use Rattle.encoder.specs.Calls.{insertCall};
 ghost use Rattle.encoder_insert.specs.Steps.{Fitting, fittingInsert};
 use encoder_fields::name::NameChoice;
 use encoder_fields::name::choose_name;
-use horizons::references::unrefer;
+use horizons::references::open_horizons;
 use instruction_writing::write::write_insert_index;
 use instruction_writing::write::write_insert_text;
 use integers::answer::NO_ROOM;
@@ -24,8 +24,9 @@ use integers::answer::OVER_LIMIT;
 use integers::answer::TOO_LONG;
 use integers::number::TableIndex;
 use reply::Reply;
-use state::encoder::forms_encoder;
+use state::head::count_of;
 use state::layout::ENTRY_SIZE;
+use state_test::encoder::forms_encoder;
 use table_rows::fits;
 use table_search::find::lowest_vacant;
 use wire::text::NAME_LIMIT;
@@ -50,11 +51,12 @@ fn insert_text_size(index: TableIndex, name: &[u8], value: &[u8]) -> usize
 // Puts the entry in at its place, referred to by no block.
 fn enter(m: &mut [u8], place: usize, index: TableIndex, name: &[u8], value: &[u8])
     requires { ⌜ (place ≡ vacantRow (now m) (countOf (now m)) 0) × (index .value ≡ 62 + place) × (formsEncoder (now m) ≡ true) ⌝ }
-    requires { ⌜ heldOf (now m) + (length (now name) + length (now value) + 32) ≤ 4096 ⌝ }
-    ensures { λ _. ⌜ now (m .exit) ≡ unreferred (inserted (now (m .entry)) place (index .value) (now (name .entry)) (now (value .entry))) (index .value) ⌝ }
+    requires { ⌜ (heldOf (now m) + (length (now name) + length (now value) + 32) ≤ 4096) × (length (now name) ≤ 255) ⌝ }
+    ensures { λ _. ⌜ now (m .exit) ≡ horizonsOpened (inserted (now (m .entry)) place (index .value) (now (name .entry)) (now (value .entry))) place (countOf (now (m .entry))) ⌝ }
 {
+    let count = count_of(m) as usize;
     table_insert::insert::insert(m, place, index, name, value);
-    unrefer(m, index);
+    open_horizons(m, place, count);
 }
 
 // An entry that keeps the limit: 12, or its insert.

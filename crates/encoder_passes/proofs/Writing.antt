@@ -19,13 +19,12 @@ use Rattle.model.specs.Encoder.{Sent, FormsEncoder, choose}
 use Rattle.state.specs.EncoderState.{encoderOf}
 use Rattle.state.specs.Forms.{formsEncoder}
 use Rattle.state_laws.proofs.EncoderLaws.{encoder-laws}
-use Rattle.state_laws.proofs.EncoderForms.{forms-holds-encoder}
 use Rattle.encoder_fields.specs.Measure.{fieldsIn, representationsOf, chosen, Chooses, capped}
-use Rattle.encoder_fields.specs.Refer.{AllHeld, entered, enteredBy, InTable}
+use Rattle.encoder_fields.specs.Refer.{AllHeld, entered, enteredBy}
 use Rattle.encoder_fields.specs.declared.choice.Choice.{Choice}
 use Rattle.encoder_fields.proofs.Chosen.{choose-fine, all-held}
 use Rattle.encoder_fields.proofs.Fields.{Left, left-all, left-none, counted-all, counted-more, room-more, capped-low, capped-high}
-use Rattle.encoder_references.proofs.Entering.{entered-none, entered-length, entered-more, held-low}
+use Rattle.encoder_references.proofs.Entering.{entered-none, entered-length, entered-more}
 use Rattle.encoder_references.proofs.Choices.{entered-forms, entered-chooses}
 
 -- ---- with the mode: memory and output are changed only where `write` says so
@@ -207,13 +206,5 @@ module _ (m : List ℕ) (small : Small m) (forms : formsEncoder m ≡ true) (f :
   state : FormsEncoder (encoderOf m)
   state = encoder-laws .fits m small forms .forms
 
-  pub choice-low : (stream : ℕ) → stream < streams → (part : Part) → InTable choice
-  choice-low stream below part =
-      held-low m small forms stream below part f choice
-      (subst (λ (r : Representation). AllHeld (encoderOf m .entries) (r ∷ [])) (sym e) (all-held (encoderOf m) state (f ∷ []) (fine, tt)))
-
   pub choice-fine : FineRepresentation (chosen f choice)
   choice-fine = subst FineRepresentation (sym e) (choose-fine (encoderOf m) state f fine)
-
-  pub choice-long : 16960 ≤ length m
-  choice-long = forms-holds-encoder m small forms .long

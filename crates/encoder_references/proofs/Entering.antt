@@ -1,29 +1,29 @@
 -- The references of a block entered one after another: memory is the state with the references of what was written so far over the old memory. Each is one
 -- change of that state, by the law of changes, and one state over another leaves the second.
-use Prim.Native.Nat.{ℕ, suc, _≤_, _<_}
+use Prim.Native.Nat.{ℕ, _≤_, _<_}
 use mathlib.Core.Path.{_≡_, refl, sym, ap, ap₂, subst, _∙_}
 use native.Mathlib.Omega.{arith}
 use mathlib.Core.Bool.{true}
-use mathlib.Core.Option.{Option, some, Option·map}
+use mathlib.Core.Option.{some, Option·map}
 use mathlib.Core.List.{List, [], _∷_, _++_, map, map-map, map-id, List·Memᴰ, List·Memᴰ·head}
 use lib.Dec.{ltb}
 use lib.ListN.{length}
 use borrow.Author.Tests.{lt-ltb, le-ltb}
 use Rattle.memory.specs.Choice.{pick}
 use Rattle.memory.specs.Bytes.{Small}
-use Rattle.memory.proofs.Order.{split, pick-true, pick-false}
+use Rattle.memory.proofs.Order.{pick-true, pick-false}
 use Rattle.wire.specs.Name.{indexed as by-index, literal as by-bytes}
 use Rattle.fields.specs.Form.{Field}
 use Rattle.blocks.specs.Representation.{Representation, indexed, literal}
 use Rattle.blocks.specs.Meaning.{references, blockReferences}
 use Rattle.model.specs.Table.{look}
 use Rattle.model.specs.Parts.{Part, blockMarks, streams}
-use Rattle.model.specs.Decoder.{isSome}
 use Rattle.model.specs.Encoder.{Sent, sentIndex, Encoder, withSent, withWritten, FineSent, refer}
-use Rattle.model_laws.proofs.Tables.{nope, pick-eq, pick-lt, look-index, look-map}
+use Rattle.model_laws.proofs.Tables.{nope, pick-lt, look-map}
 use Rattle.model_laws.proofs.DecoderWays.{some-found}
 use Rattle.model_laws.proofs.Order.{refer-index}
 use Rattle.model_laws.proofs.SentChanges.{refer-entry, refer-fine, sent-map}
+use Rattle.state.specs.Layout.{countOf}
 use Rattle.state.specs.Rows.{Row}
 use Rattle.state.specs.EncoderState.{rowOfSent, encoderOf, encoderFront, overlayEncoder}
 use Rattle.state.specs.Forms.{formsEncoder}
@@ -33,28 +33,20 @@ use Rattle.state_laws.proofs.EncoderHolds.{HoldsEncoder, fits-each}
 use Rattle.state_laws.proofs.EncoderForms.{forms-holds-encoder}
 use Rattle.state_laws.proofs.EncoderOverlay.{encoder-fine, length-overlayEncoder, overlay-holds-encoder, overlay-self-encoder}
 use Rattle.parts.specs.Close.{closedBy}
-use Rattle.deletes.specs.Deletes.{raised}
-use Rattle.table_laws.specs.EncoderChanges.{referredAt}
-use Rattle.table_laws.proofs.Finding.{FoundAt, found-here, found-next}
+use Rattle.table_search.specs.Search.{Ordered, findFrom}
+use Rattle.table_search.specs.declared.find.Found.{Found}
+use Rattle.table_search.specs.declared.find.Found.the-variants.{At, Vacant}
+use Rattle.table_laws.specs.DecoderChanges.{found}
+use Rattle.table_laws.specs.EncoderChanges.{referredAt, EncoderChanges}
 use Rattle.table_laws.proofs.FrontFits.{marks-fit}
-use Rattle.table_laws.proofs.EncoderUpdates.{writes, refers}
+use Rattle.table_laws.proofs.EncoderUpdates.{writes}
+use Rattle.table_laws.proofs.EncoderClaim.{holds-changes}
 use Rattle.encoder_fields.specs.Measure.{chosen}
-use Rattle.encoder_fields.specs.Refer.{AllHeld, entered, enteredOne, enteredBy, enteredChoice, InTable}
+use Rattle.encoder_fields.specs.Refer.{AllHeld, entered, enteredAt, enteredOne, enteredBy, enteredChoice}
 use Rattle.encoder_fields.specs.declared.choice.Choice.{Choice}
 use Rattle.encoder_fields.specs.declared.choice.Choice.the-variants.{Indexed, Named, Literal}
 use Rattle.encoder_references.proofs.Twice.{overlay-twice}
-use Rattle.encoder_references.proofs.Mentions.{refer-row, referred-at-index, refer-nothing, refer-text, refer-other, refer-one}
-
--- ---- lists
-
-found-at : {X : Type 0} (index : X → ℕ) (i : ℕ) (l : List X) (x : X) → look index i l ≡ some x → (k : ℕ) × FoundAt index i k l
-unfolding look
-found-at index i [] x h = nope (cc)
-found-at {X} index i (y ∷ l) x h =
-    pick-eq (λ (o : Option X). o ≡ some x → (k : ℕ) × FoundAt index i k (y ∷ l)) (index y) i (some y) (look index i l)
-    (λ e z. (0, found-here index i y l e))
-    (λ n z. let w = found-at index i l x z in (suc (w .0), found-next index i y l (w .0) n (w .1)))
-    h
+use Rattle.encoder_references.proofs.Mentions.{refer-row, refer-nothing, refer-text, refer-other, refer-one}
 
 map-same : (f g : Sent → Sent) (P : Sent → Type 0) → ((e : Sent) → P e → f e ≡ g e) → (l : List Sent) → Each P l → map f l ≡ map g l
 map-same f g P h [] each = refl
@@ -105,26 +97,39 @@ module _ (E : Encoder) (m : List ℕ) (H : HoldsEncoder E m) (s : ℕ) (p : Part
       after-static : i < 62 → after ps ≡ after more
       after-static low = after-same (λ e h. sym (refer-other s p ps r i named e (λ z. omega (arith, h .low))))
 
-      after-one : (x : Sent) → look sentIndex i (E .entries) ≡ some x → raised (after ps) i p s ≡ after more
-      after-one x there =
-          let now : Encoder = state ps in
-          let next : List Sent = map (referredAt s p i) (now .entries) in
-          let is : next ≡ map (refer s p more) (E .entries) =
-          map-map (referredAt s p i) (refer s p ps) (E .entries)
-          ∙ map-same (λ e. referredAt s p i (refer s p ps e)) (refer s p more) FineSent (λ e h. sym (refer-one s p ps r i named e)) (E .entries)
-          (fits-each E (H .fits)) in
-          let there′ : look sentIndex i (now .entries) ≡ some (refer s p ps x) =
-          look-map sentIndex (refer s p ps) (refer-index s p ps) i (E .entries) ∙ ap (Option·map (refer s p ps)) there in
-          let place = found-at sentIndex i (now .entries) (refer s p ps x) there′ in
-          refers now (after ps) (holds ps) i (place .0) (place .1) s p below
-          ∙ ap (λ (l : List Sent). overlayEncoder (withSent E l) (after ps)) is
-          ∙ overlay-twice now (state more) m (encoder-fine (state more) (fits more)) (fits ps .forms .order) (referredAt s p i) (referred-at-index s p i)
-          (ap (map rowOfSent) is ∙ rows-kept more (E .entries) ∙ sym (rows-kept ps (E .entries))) (sym is)
+      -- an index that is held: the row that is found has its entry
+      after-one : (x : Sent) → look sentIndex i (E .entries) ≡ some x
+          → enteredAt (after ps) s p (findFrom (after ps) i (countOf (after ps)) 0) ≡ after more
+      after-one x there = go (findFrom (after ps) i (countOf (after ps)) 0) refl
+        where
+          now : Encoder
+          now = state ps
 
-      after-index : AllHeld (E .entries) (r ∷ []) → pick (ltb i 62) (after ps) (raised (after ps) i p s) ≡ after more
+          next : map (referredAt s p i) (now .entries) ≡ map (refer s p more) (E .entries)
+          next =
+              map-map (referredAt s p i) (refer s p ps) (E .entries)
+              ∙ map-same (λ e. referredAt s p i (refer s p ps e)) (refer s p more) FineSent (λ e h. sym (refer-one s p ps r i named e)) (E .entries)
+              (fits-each E (H .fits))
+
+          held : look sentIndex i (now .entries) ≡ some (refer s p ps x)
+          held = look-map sentIndex (refer s p ps) (refer-index s p ps) i (E .entries) ∙ ap (Option·map (refer s p ps)) there
+
+          go : (f : Found) → findFrom (after ps) i (countOf (after ps)) 0 ≡ f → enteredAt (after ps) s p f ≡ after more
+          go (At place) f =
+              holds-changes now (after ps) (holds ps) .refer i place s p f below
+              ∙ ap (λ (l : List Sent). overlayEncoder (withSent E l) (after ps)) next
+              ∙ overlay-twice now (state more) m (encoder-fine (state more) (fits more))
+              (rows-kept more (E .entries) ∙ sym (rows-kept ps (E .entries)))
+          go (Vacant place) f =
+              let gone = holds-changes now (after ps) (holds ps) .nowhere i place f in
+              let there′ = held in
+              nope (cc)
+
+      after-index : AllHeld (E .entries) (r ∷ [])
+          → pick (ltb i 62) (after ps) (enteredAt (after ps) s p (findFrom (after ps) i (countOf (after ps)) 0)) ≡ after more
       unfolding blockReferences
       after-index held =
-          pick-lt (λ (l : List ℕ). l ≡ after more) i 62 (after ps) (raised (after ps) i p s) after-static
+          pick-lt (λ (l : List ℕ). l ≡ after more) i 62 (after ps) (enteredAt (after ps) s p (findFrom (after ps) i (countOf (after ps)) 0)) after-static
           (λ high. let e = some-found (look sentIndex i (E .entries)) (held i (subst (λ (is : List ℕ). List·Memᴰ i (is ++ [])) (sym named) (List·Memᴰ·head refl)) high) in
           after-one (e .0) (e .1))
 
@@ -136,8 +141,7 @@ module _ (E : Encoder) (m : List ℕ) (H : HoldsEncoder E m) (s : ℕ) (p : Part
       let now : Encoder = state rs in
       let next : Encoder = withWritten now (blockMarks p s (E .written)) in
       writes now (after rs) (holds rs) s p below
-      ∙ overlay-twice now next m (marks-fit (encoderFront now) (encoder-fine now (fits rs)) (blockMarks p s (E .written))) (fits rs .forms .order) (λ e. e)
-      (λ e. refl) (ap (map rowOfSent) (map-id (now .entries))) (sym (map-id (now .entries)))
+      ∙ overlay-twice now next m (marks-fit (encoderFront now) (encoder-fine now (fits rs)) (blockMarks p s (E .written))) refl
 
 -- ---- one choice, and one index, by its kind
 
@@ -151,9 +155,10 @@ module _ (m : List ℕ) (stream : ℕ) (part : Part) (index : ℕ) where
   unfolding enteredOne
   entered-static h = sym (pick-true (ltb index 62) m _ (lt-ltb index 62 h))
 
-  pub entered-raised : 62 ≤ index → raised m index part stream ≡ enteredOne m stream part index
-  unfolding enteredOne
-  entered-raised high = sym (pick-false (ltb index 62) m (raised m index part stream) (le-ltb index 62 high))
+  module _ (high : 62 ≤ index) (f : Found) (e : findFrom m index (countOf m) 0 ≡ f) where
+    pub entered-found : enteredAt m stream part f ≡ enteredOne m stream part index
+    unfolding enteredOne
+    entered-found = sym (pick-false (ltb index 62) m _ (le-ltb index 62 high) ∙ ap (enteredAt m stream part) e)
 
 -- ---- the same of memory that forms a state
 
@@ -163,6 +168,16 @@ module _ (m : List ℕ) (small : Small m) (forms : formsEncoder m ≡ true) (str
 
   H : HoldsEncoder E m
   H = forms-holds-encoder m small forms
+
+  -- what finding the row of an index relies on, and the row's place
+  stands : EncoderChanges m E
+  stands = holds-changes E m H
+
+  pub entering-ordered : Ordered m
+  entering-ordered = stands .ordered
+
+  pub entering-place : (index place : ℕ) → found m index place → place < 128
+  entering-place index place f = omega (arith, stands .here index place f .0, stands .ordered .few)
 
   pub fits-entered : (rs : List Representation) → FitsEncoder (withSent E (map (refer stream part rs) (E .entries)))
   fits-entered rs = fits E m H stream part below rs
@@ -181,19 +196,6 @@ module _ (m : List ℕ) (small : Small m) (forms : formsEncoder m ≡ true) (str
   entered-more ps (indexed i) held = after-index E m H stream part below ps (indexed i) i refl held
   entered-more ps (literal flag (by-index i) value) held = after-index E m H stream part below ps (literal flag (by-index i) value) i refl held
   entered-more ps (literal flag (by-bytes name) value) held = after-text E m H stream part below ps (literal flag (by-bytes name) value) refl
-
-  -- an index that is static or held has at most 189
-  low : (i : ℕ) → (62 ≤ i → isSome (look sentIndex i (E .entries)) ≡ true) → i ≤ 189
-  low i held =
-      split i 62 (λ h. omega arith)
-      (λ h. let e = some-found (look sentIndex i (E .entries)) (held h) in
-      omega (arith, H .fits .forms .entries i (e .0) (e .1) .high, look-index sentIndex i (E .entries) (e .0) (e .1)))
-
-  pub held-low : (f : Field) (choice : Choice) → AllHeld (E .entries) (chosen f choice ∷ []) → InTable choice
-  unfolding blockReferences
-  held-low f (Indexed i) held = low (i .value) (held (i .value) (List·Memᴰ·head refl))
-  held-low f (Named i) held = low (i .value) (held (i .value) (List·Memᴰ·head refl))
-  held-low f Literal held = tt
 
   pub entered-written : (rs : List Representation)
       → closedBy part (entered m stream part rs) stream

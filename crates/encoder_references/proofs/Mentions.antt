@@ -17,7 +17,7 @@ use Rattle.model_laws.proofs.Tables.{pick-yes, pick-no}
 use Rattle.model_laws.proofs.Order.{refer-index}
 use Rattle.state.specs.EncoderState.{rowOfSent}
 use Rattle.table_laws.specs.EncoderChanges.{referredAt}
-use Rattle.table_laws.proofs.EncoderReferences.{referred-index, referred-row}
+use Rattle.table_laws.proofs.EncoderHorizons.{referred-row}
 
 -- ---- the indexes that a block names
 
@@ -56,11 +56,6 @@ module _ (s : ℕ) where
     refer-row rs e =
         pick-both (λ (d : Sent). rowOfSent d ≡ rowOfSent e) (mentions (blockReferences rs) (e .index)) (referred s p e) e
         (λ h. referred-row s p e) (λ h. refl)
-
-    pub referred-at-index : (i : ℕ) (e : Sent) → referredAt s p i e .index ≡ e .index
-    unfolding referredAt
-    referred-at-index i e =
-        pick-both (λ (d : Sent). d .index ≡ e .index) (eqb (e .index) i) (referred s p e) e (λ h. referred-index s p e) (λ h. refl)
 
     pub refer-nothing : (e : Sent) → refer s p [] e ≡ e
     unfolding refer blockReferences mentions

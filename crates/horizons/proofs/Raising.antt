@@ -9,7 +9,7 @@ use Rattle.memory.specs.Numbers.{numberBytes}
 use Rattle.memory.proofs.Overlay.{overlay-same}
 use Rattle.memory.proofs.Numbers.{bytes-back}
 use Rattle.state.specs.Layout.{horizonAt}
-use Rattle.deletes.specs.Deletes.{raisedAt}
+use Rattle.horizons.specs.Horizons.{raisedAt}
 
 module _ (m : List ℕ) (at stream : ℕ) where
   pub raise-lower : horizonAt m at < stream + 1 → overlay m at (numberBytes 2 (stream + 1)) ≡ raisedAt m at stream

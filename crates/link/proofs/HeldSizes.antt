@@ -12,7 +12,7 @@ use Rattle.model_laws.proofs.Tables.{nope, pick-eq}
 use Rattle.state.specs.Layout.{heldOf, countOf}
 use Rattle.state.specs.Rows.{Row, rowsOf}
 use Rattle.state.specs.DecoderState.{decoderOf, rowOfHeld, decoderFront}
-use Rattle.state.specs.EncoderState.{encoderOf, sentOfRow, encoderFront}
+use Rattle.state.specs.EncoderState.{encoderOf, encoderFront}
 use Rattle.state_laws.proofs.FrontRead.{read-held}
 use Rattle.state_laws.proofs.HeldRows.{held-back, rows-size}
 use Rattle.state_laws.proofs.SentRows.{sents-size}

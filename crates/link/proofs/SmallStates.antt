@@ -3,12 +3,14 @@
 use Prim.Native.Nat.{ℕ, zero, suc, _+_, _*_, _-_, _<_}
 use native.Mathlib.Omega.{arith}
 use mathlib.Core.Bool.{Bool, not}
-use mathlib.Core.List.{List, [], _∷_, _++_}
+use mathlib.Core.List.{List, [], _∷_, _++_, map}
 use lib.ListN.{length, replicate}
 use Rattle.memory.specs.Bytes.{Small, overlay}
 use Rattle.memory.specs.Numbers.{numberBytes}
 use Rattle.memory.proofs.Overlay.{small-overlay, small-cons, small-append, small-part}
 use Rattle.memory.proofs.Numbers.{small-numberBytes}
+use Rattle.columns.specs.Columns.{columnBytes}
+use Rattle.columns.specs.Pieces.{Piece, overlays}
 use Rattle.marks.specs.Marks.{wordOf, wordsBytes}
 use Rattle.stream_lists.specs.StreamList.{StreamList}
 use Rattle.statics.specs.Table.{Entry}
@@ -17,17 +19,14 @@ use Rattle.model.specs.Decoder.{Held, Decoder}
 use Rattle.model.specs.Encoder.{Sent, Encoder}
 use Rattle.state.specs.Layout.{
   deletesPlace,
-  referencePlace,
   textPlace,
-  rowsPlace,
-  marksPlace,
   offsetAt,
   nameLengthAt,
   valueLengthAt,
   countOf,
 }
-use Rattle.state.specs.Rows.{Row, rowsOf, rowLine, rowBytes, rowsBytes, textOf, textBytes, rowsSize}
-use Rattle.state.specs.Front.{Front, headBytes, marksBytes, overlayFront}
+use Rattle.state.specs.Rows.{Row, rowsOf, textOf, textBytes, rowsSize}
+use Rattle.state.specs.Front.{Front, headBytes, marksBytes, frontPieces, overlayFront}
 use Rattle.state.specs.DecoderState.{
   heldOfRow,
   decoderOf,
@@ -39,7 +38,7 @@ use Rattle.state.specs.DecoderState.{
   decoderFront,
   overlayDecoder,
 }
-use Rattle.state.specs.EncoderState.{sentOfRow, encoderOf, rowOfSent, encoderFront, referenceOver, referencesOver, overlayEncoder}
+use Rattle.state.specs.EncoderState.{sentAt, sentsOf, encoderOf, rowOfSent, encoderFront, horizonPieces, overlayEncoder}
 use Rattle.state_laws.proofs.Each.{Each, each-map}
 
 -- a list of bytes: a record, so that antt finds the list
@@ -81,16 +80,10 @@ SmallSent e = SmallEntry (e .entry)
 
 -- ---- the front
 
-row-bytes : (o : ℕ) (r : Row) → Bytes (rowBytes o r)
-unfolding rowBytes rowLine
-row-bytes o r =
-    join (number 4 (r .index)) (join (number 2 o) (join (number 2 (length (r .entry .name))) (join (number 2 (length (r .entry .value)))
-    (join (number 2 (r .status)) (number 4 0)))))
-
-rows-bytes : (o : ℕ) (rs : List Row) → Bytes (rowsBytes o rs)
-unfolding rowsBytes
-rows-bytes o [] = no-bytes
-rows-bytes o (r ∷ rs) = join (row-bytes o r) (rows-bytes (o + length (textOf (r .entry))) rs)
+column-bytes : (w : ℕ) (xs : List ℕ) → Bytes (columnBytes w xs)
+unfolding columnBytes
+column-bytes w [] = no-bytes
+column-bytes w (x ∷ xs) = join (number w x) (column-bytes w xs)
 
 text-bytes : (rs : List Row) → Each SmallRow rs → Bytes (textBytes rs)
 unfolding textBytes
@@ -113,16 +106,21 @@ head-bytes f h =
     byte h (byte (omega arith) (join (number 2 (f .limit)) (join (number 2 (rowsSize (f .rows))) (join (number 2 (length (f .rows)))
     (join (number 2 (f .deletes)) (zeros 54))))))
 
+-- pieces of bytes over memory of bytes
+abbrev AllBytes : List Piece → Type 0
+AllBytes [] = Unit {0}
+AllBytes (p ∷ ps) = Bytes (p .bytes) × AllBytes ps
+
+overs : (m : List ℕ) (ps : List Piece) → Bytes m → AllBytes ps → Bytes (overlays m ps)
+unfolding overlays
+overs m [] s t = s
+overs m (p ∷ ps) s t = overs (overlay m (p .place) (p .bytes)) ps (over m (p .place) (p .bytes) s (t .0)) (t .1)
+
 front-bytes : (f : Front) (m : List ℕ) → Small m → f .role < 256 → Each SmallRow (f .rows) → Bytes (overlayFront f m)
-unfolding overlayFront
+unfolding overlayFront frontPieces
 front-bytes f m s h e =
-    let head : List ℕ = overlay m 0 (headBytes f) in
-    let marks : List ℕ = overlay head (marksPlace nontrailer) (marksBytes (f .marks)) in
-    over (overlay marks rowsPlace (rowsBytes 0 (f .rows))) textPlace (textBytes (f .rows))
-    (over marks rowsPlace (rowsBytes 0 (f .rows))
-    (over head (marksPlace nontrailer) (marksBytes (f .marks)) (over m 0 (headBytes f) (record { small = s }) (head-bytes f h)) (marks-bytes (f .marks)))
-    (rows-bytes 0 (f .rows)))
-    (text-bytes (f .rows) e)
+    overs m (frontPieces f) (record { small = s })
+    (head-bytes f h, (marks-bytes (f .marks), (column-bytes 4 _, (column-bytes 2 _, (column-bytes 1 _, (column-bytes 2 _, (text-bytes (f .rows) e, tt)))))))
 
 -- names and values that memory stands for are parts of it
 rows-small : (m : List ℕ) → Small m → (i k : ℕ) → Each SmallRow (rowsOf m i k)
@@ -163,22 +161,18 @@ decoder-small m s = each-map SmallRow SmallHeld heldOfRow (λ r p. p) (rowsOf m 
 
 -- ---- the encoder
 
-references-small : (es : List Sent) (m : List ℕ) → Small m → Small (referencesOver es m)
-unfolding referencesOver referenceOver
-references-small [] m s = s
-references-small (e ∷ es) m s =
-    let at : ℕ = referencePlace (e .index) in
-    let nontrailer : List ℕ = numberBytes 2 (e .nontrailer) in
-    references-small es (referenceOver e m)
-    (small-overlay (overlay m at nontrailer) (at + 38) (numberBytes 2 (e .trailer)) (small-overlay m at nontrailer s (small-numberBytes 2 (e .nontrailer)))
-    (small-numberBytes 2 (e .trailer)))
-
 pub small-encoder : (E : Encoder) (m : List ℕ) → Small m → Each SmallSent (E .entries) → Small (overlayEncoder E m)
 unfolding overlayEncoder encoderFront rowOfSent
 small-encoder E m s e =
-    references-small (E .entries) (overlayFront (encoderFront E) m)
-    (front-bytes (encoderFront E) m s (omega arith) (each-map SmallSent SmallRow rowOfSent (λ x p. p) (E .entries) e) .small)
+    overs (overlayFront (encoderFront E) m) (horizonPieces (E .entries))
+    (front-bytes (encoderFront E) m s (omega arith) (each-map SmallSent SmallRow rowOfSent (λ x p. p) (E .entries) e))
+    (column-bytes 2 _, (column-bytes 2 _, tt)) .small
+
+sents-small : (m : List ℕ) (i k : ℕ) → Each SmallRow (rowsOf m i k) → Each SmallSent (sentsOf m i k)
+unfolding rowsOf sentsOf sentAt
+sents-small m i zero e = tt
+sents-small m i (suc k) e = (e .0, sents-small m (i + 1) k (e .1))
 
 pub encoder-small : (m : List ℕ) → Small m → Each SmallSent (encoderOf m .entries)
-unfolding encoderOf sentOfRow
-encoder-small m s = each-map SmallRow SmallSent (sentOfRow m) (λ r p. p) (rowsOf m 0 (countOf m)) (rows-small m s 0 (countOf m))
+unfolding encoderOf
+encoder-small m s = sents-small m 0 (countOf m) (rows-small m s 0 (countOf m))

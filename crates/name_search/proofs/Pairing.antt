@@ -1,130 +1,60 @@
--- The searches by name and value and by name alone, made in one pass: what holds once some rows are passed, the turn at each row, and the answers.
--- A row that does not serve for the name does not serve for both, and where it serves for the name the value decides.
+-- The searches by name and value and by name alone: a row with both has the name, so that none before the lowest with the name has both.
 use mathlib.Core.Path.{_≡_, refl, sym, ap, ap₂, _∙_}
-use Prim.Native.Nat.{ℕ, _+_, _-_, _≤_, _<_}
+use Prim.Native.Nat.{ℕ, zero, suc, _+_, _-_, _≤_, _<_}
 use native.Mathlib.Omega.{arith}
-use mathlib.Core.Bool.{Bool, true, false}
+use native.Mathlib.Nat.{zero-add}
 use mathlib.Core.List.{List}
-use lib.Dec.{eqb}
-use borrow.Author.Tests.{eq-eqb, ne-eqb}
-use Rattle.memory.specs.Choice.{pick}
-use Rattle.memory.proofs.Order.{pick-true, pick-false}
+use lib.ListN.{length}
+use Rattle.memory.specs.Bytes.{Small}
+use Rattle.memory.proofs.Numbers.{number-bound}
+use Rattle.memory.proofs.Order.{pick-false}
 use Rattle.model_laws.proofs.Tables.{nope}
-use Rattle.state.specs.Layout.{countOf, rowPlace}
-use Rattle.table_search.specs.Search.{rowOf}
-use Rattle.name_search.specs.Names.{servesAt, hasValueAt, servesBothAt, lowestRow, paired}
+use Rattle.state.specs.Layout.{countOf, nameLengthPlace}
+use Rattle.table_search.specs.Search.{Ordered}
+use Rattle.name_search.specs.Names.{servesAt, servesBothAt, lowestRow, paired}
 use Rattle.name_search.specs.declared.names.Sought.{Sought}
 use Rattle.name_search.specs.declared.names.Sought.the-variants.{Row, Nothing}
-use Rattle.name_search.specs.declared.names.Paired.{Paired}
 use Rattle.name_search.specs.declared.names.Paired.the-variants.{Both, Name, Nothing as NoRow}
-use Rattle.table_search.proofs.Fields.{row-of}
-use Rattle.name_search.proofs.LowestRow.{row-start, row-more, row-here, row-done}
-use Rattle.name_search.proofs.Serving.{not-named, value-decides}
+use Rattle.name_search.proofs.LowestRow.{row-within, row-behind, row-neither}
+use Rattle.name_search.proofs.Serving.{other-length, not-named}
 
--- ---- a place that is kept, 0 where there is none yet
+-- a row that is found is one of the table
+pub first-held : (m name : List ℕ) (first : ℕ) → lowestRow (servesAt m name) (countOf m) 0 ≡ Row first → first < countOf m
+first-held m name first e = rw (zero-add (countOf m)) at (row-within (servesAt m name) (countOf m) 0 first e .1)
 
--- the row at the place, else what the rows behind have
-unfoldable pub kept : ℕ → Sought → Sought
-kept first later = pick (eqb first 0) later (Row (rowOf first))
+module _ (m name value : List ℕ) where
+  abbrev whole : Sought
+  whole = lowestRow (servesBothAt m name value) (countOf m) 0
 
-kept-none : (first : ℕ) (later : Sought) → first ≡ 0 → kept first later ≡ later
-unfolding kept
-kept-none first later e = pick-true (eqb first 0) later (Row (rowOf first)) (eq-eqb first 0 e)
+  abbrev named : Sought
+  named = lowestRow (servesAt m name) (countOf m) 0
 
-kept-row : (first : ℕ) (later : Sought) → (first ≡ 0 → ⊥) → kept first later ≡ Row (rowOf first)
-unfolding kept
-kept-row first later f = pick-false (eqb first 0) later (Row (rowOf first)) (ne-eqb first 0 f)
+  -- the lowest row with the name; and with both, of the rows from there on
+  module _ (first : ℕ) (e : named ≡ Row first) where
+    from-first : whole ≡ lowestRow (servesBothAt m name value) (countOf m - first) first
+    from-first =
+        rw (zero-add (countOf m)) at (row-behind (servesAt m name) (servesBothAt m name value) (not-named m name value) (countOf m) 0 first e)
 
--- ---- the rows below row i are passed: none has both, and the lowest with the name is kept
+    pub pair-both : (i : ℕ) → lowestRow (servesBothAt m name value) (countOf m - first) first ≡ Row i → Both i ≡ paired whole named
+    unfolding paired
+    pair-both i d = sym (ap (λ (w : Sought). paired w named) (from-first ∙ d))
 
-pub record Passed (m name value : List ℕ) (i first : ℕ) : Type 0 where
-  pub within : i ≤ countOf m
-  pub place : (first ≡ 0 → ⊥) → 1088 ≤ first
-  pub whole : lowestRow (servesBothAt m name value) (countOf m) 0 ≡ lowestRow (servesBothAt m name value) (countOf m - i) i
-  pub named : lowestRow (servesAt m name) (countOf m) 0 ≡ kept first (lowestRow (servesAt m name) (countOf m - i) i)
+    pub pair-name : lowestRow (servesBothAt m name value) (countOf m - first) first ≡ Nothing → Name first ≡ paired whole named
+    unfolding paired
+    pair-name d = sym (ap₂ paired (from-first ∙ d) e)
 
-pub pass-start : (m name value : List ℕ) → Passed m name value 0 0
-pass-start m name value =
-    record {
-      within = omega arith;
-      place = λ f. absurd (f refl);
-      whole = row-start (servesBothAt m name value) (countOf m);
-      named = row-start (servesAt m name) (countOf m) ∙ sym (kept-none 0 (lowestRow (servesAt m name) (countOf m - 0) 0) refl);
-    }
+  -- no name of the table has more than 255 bytes
+  pub none-so-long : Small m → Ordered m → 255 < length name → (k i : ℕ) → i + k ≤ countOf m → lowestRow (servesAt m name) k i ≡ Nothing
+  unfolding lowestRow
+  none-so-long small o h zero i b = refl
+  none-so-long small o h (suc k) i b =
+      pick-false (servesAt m name i) _ _ (other-length m o i (omega arith) name (λ e. omega (arith, number-bound 1 m (nameLengthPlace i) small)))
+      ∙ none-so-long small o h k (i + 1) (omega arith)
 
-module _ (m name value : List ℕ) (i first : ℕ) (p : Passed m name value i first) where
-  -- ---- the turns: j is the next row, and f the place that is kept then
-  module _ (h : i < countOf m) (j : ℕ) (next : j ≡ i + 1) (f : ℕ) where
-    more : (test : ℕ → Bool) → test i ≡ false → lowestRow test (countOf m - i) i ≡ lowestRow test (countOf m - j) j
-    more test t = rw next (row-more test (countOf m) i h t)
-
-    pub pass-other : servesAt m name i ≡ false → f ≡ first → Passed m name value j f
-    pass-other t e =
-        rw e
-        (record {
-          within = omega arith;
-          place = p .place;
-          whole = p .whole ∙ more (servesBothAt m name value) (not-named m name value i t);
-          named = p .named ∙ ap (kept first) (more (servesAt m name) t);
-        })
-
-    module _ (t : servesAt m name i ≡ true) (v : hasValueAt m value i ≡ false) where
-      without : lowestRow (servesBothAt m name value) (countOf m) 0 ≡ lowestRow (servesBothAt m name value) (countOf m - j) j
-      without = p .whole ∙ more (servesBothAt m name value) (value-decides m name value i t ∙ v)
-
-      pub pass-first : first ≡ 0 → f ≡ rowPlace i → Passed m name value j f
-      pass-first z e =
-          let later = lowestRow (servesAt m name) (countOf m - i) i in
-          record {
-            within = omega arith;
-            place = λ g. omega arith;
-            whole = without;
-            named =
-                p .named
-                ∙ kept-none first later z
-                ∙ row-here (servesAt m name) (countOf m) i h t
-                ∙ ap Row (sym (row-of i e))
-                ∙ sym (kept-row f (lowestRow (servesAt m name) (countOf m - j) j) (λ g. omega arith));
-          }
-
-      pub pass-later : (first ≡ 0 → ⊥) → f ≡ first → Passed m name value j f
-      pass-later g e =
-          rw e
-          (record {
-            within = omega arith;
-            place = p .place;
-            whole = without;
-            named =
-                p .named
-                ∙ kept-row first (lowestRow (servesAt m name) (countOf m - i) i) g
-                ∙ sym (kept-row first (lowestRow (servesAt m name) (countOf m - j) j) g);
-          })
-
-  -- ---- the answers
-  abbrev answer : Paired
-  answer = paired (lowestRow (servesBothAt m name value) (countOf m) 0) (lowestRow (servesAt m name) (countOf m) 0)
-
-  pub pair-both : i < countOf m → servesAt m name i ≡ true → hasValueAt m value i ≡ true → Both i ≡ answer
+  pub pair-none : named ≡ Nothing → NoRow ≡ paired whole named
   unfolding paired
-  pair-both h t v =
-      sym
-      (ap (λ (o : Sought). paired o (lowestRow (servesAt m name) (countOf m) 0))
-      (p .whole ∙ row-here (servesBothAt m name value) (countOf m) i h (value-decides m name value i t ∙ v)))
-
-  module _ (h : countOf m ≤ i) where
-    none : lowestRow (servesBothAt m name value) (countOf m) 0 ≡ Nothing
-    none = p .whole ∙ row-done (servesBothAt m name value) (countOf m) i h
-
-    pub pair-name : (first ≡ 0 → ⊥) → Name (rowOf first) ≡ answer
-    unfolding paired
-    pair-name g = sym (ap₂ paired none (p .named ∙ kept-row first (lowestRow (servesAt m name) (countOf m - i) i) g))
-
-    pub pair-none : first ≡ 0 → NoRow ≡ answer
-    unfolding paired
-    pair-none z =
-        sym
-        (ap₂ paired none
-        (p .named ∙ kept-none first (lowestRow (servesAt m name) (countOf m - i) i) z ∙ row-done (servesAt m name) (countOf m) i h))
+  pair-none e =
+      sym (ap₂ paired (row-neither (servesAt m name) (servesBothAt m name value) (not-named m name value) (countOf m) 0 e) e)
 
 -- ---- what a pair says of them
 

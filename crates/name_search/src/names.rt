@@ -1,21 +1,27 @@
-// The lowest entry with a name, or with a name and a value, that is not under deletion. Lengths are compared first, so that most rows cost one look.
+// The lowest entry with a name, or with a name and a value, that is not under deletion. A name's length is compared first, then, where a value is sought that
+// has four bytes or more, the last four bytes of the text as one number: most rows cost one look.
 ghost use mathlib.Core.Path.{_≡_};
-ghost use Prim.Native.Nat.{ℕ, _+_, _<_};
+ghost use mathlib.Core.Bool.{true};
+ghost use Prim.Native.Nat.{ℕ, _+_, _-_, _≤_, _<_};
 ghost use lib.ListN.{length};
 ghost use Rattle.state.specs.Layout.{countOf, nameLengthAt};
-ghost use Rattle.table_search.specs.Search.{Ordered, RowStands, rowOf};
-ghost use Rattle.name_search.specs.Names.{servesAt, hasValueAt, servesBothAt, lowestRow, paired};
+ghost use Rattle.table_search.specs.Search.{Ordered};
+ghost use Rattle.name_search.specs.Names.{endsWith, servesAt, hasValueAt, servesBothAt, lowestRow, paired};
 use state::head::count_of;
-use state::layout::ROW_LENGTH;
-use state::layout::ROWS;
-use state::layout::TEXT;
-use state::layout::row_place;
+use state::row::name_byte_at;
 use state::row::name_length_at;
-use state::row::name_length_in;
-use state::row::offset_in;
-use state::row::status_in;
-use state::row::value_length_in;
+use state::row::offset_at;
+use state::row::status_at;
+use state::row::text_at;
+use state::row::text_length_at;
+use text_compare::text::last_four;
 use text_compare::text::stands_at;
+
+// How many bytes at the end of a text are compared at once.
+const KEY: usize = 4;
+
+// No name of the table is longer: its length has one byte.
+const MOST_NAME: usize = 255;
 
 pub enum Sought {
     Row(usize),
@@ -29,40 +35,16 @@ pub enum Paired {
     Nothing,
 }
 
-// Does the row at this place serve for this name, which is as long as its own?
-fn has_name_at(m: &[u8], at: usize, name: &[u8]) -> bool
-    requires { ⌜ RowStands (now m) at × Ordered (now m) ⌝ }
-    requires { ⌜ nameLengthAt (now m) (rowOf at) ≡ length (now name) ⌝ }
-    ensures { λ r. ⌜ r ≡ servesAt (now (m .entry)) (now (name .entry)) (rowOf at) ⌝ }
-{
-    if status_in(m, at) != 0 {
-        return false;
-    }
-    stands_at(m, TEXT + (offset_in(m, at) as usize), name)
-}
-
-// Has the row at this place this value?
-fn has_value_at(m: &[u8], at: usize, value: &[u8]) -> bool
-    requires { ⌜ RowStands (now m) at × Ordered (now m) ⌝ }
-    ensures { λ r. ⌜ r ≡ hasValueAt (now (m .entry)) (now (value .entry)) (rowOf at) ⌝ }
-{
-    let n = value_length_in(m, at) as usize;
-    if n != value.len() {
-        return false;
-    }
-    let start = TEXT + (offset_in(m, at) as usize) + (name_length_in(m, at) as usize);
-    stands_at(m, start, value)
-}
-
-// Does row `i` serve for this name?
+// Does row `i` serve for this name, which is as long as its own?
 fn has_name(m: &[u8], i: usize, name: &[u8]) -> bool
     requires { ⌜ (i < countOf (now m)) × Ordered (now m) ⌝ }
+    requires { ⌜ nameLengthAt (now m) i ≡ length (now name) ⌝ }
     ensures { λ r. ⌜ r ≡ servesAt (now (m .entry)) (now (name .entry)) i ⌝ }
 {
-    if (name_length_at(m, i) as usize) != name.len() {
+    if status_at(m, i) != 0 {
         return false;
     }
-    has_name_at(m, row_place(i), name)
+    stands_at(m, text_at(m, i), name)
 }
 
 // The lowest entry with this name that is not under deletion.
@@ -71,41 +53,142 @@ pub fn find_name(m: &[u8], name: &[u8]) -> Sought
     ensures { λ r. ⌜ r ≡ lowestRow (servesAt (now (m .entry)) (now (name .entry))) (countOf (now (m .entry))) 0 ⌝ }
 {
     let count = count_of(m) as usize;
+    let n = name.len();
     let mut i: usize = 0;
     while i < count {
-        if has_name(m, i, name) {
-            return Sought::Row(i);
+        if (name_length_at(m, i) as usize) == n {
+            if has_name(m, i, name) {
+                return Sought::Row(i);
+            }
         }
         i += 1;
     }
     Sought::Nothing
 }
 
-// Both in one pass over the places of rows. `first` is the place of the lowest row with the name, 0 as long as there is none.
+// Has row `i`, whose name has `n` bytes, this value?
+fn has_value(m: &[u8], i: usize, n: usize, value: &[u8]) -> bool
+    requires { ⌜ (i < countOf (now m)) × Ordered (now m) × (n ≡ nameLengthAt (now m) i) ⌝ }
+    ensures { λ r. ⌜ r ≡ hasValueAt (now (m .entry)) (now (value .entry)) i ⌝ }
+{
+    if text_length_at(m, i) - n != value.len() {
+        return false;
+    }
+    stands_at(m, text_at(m, i) + n, value)
+}
+
+// Does row `i` serve for this name, which is as long as its own, and this value?
+fn has_both(m: &[u8], i: usize, name: &[u8], value: &[u8]) -> bool
+    requires { ⌜ (i < countOf (now m)) × Ordered (now m) ⌝ }
+    requires { ⌜ nameLengthAt (now m) i ≡ length (now name) ⌝ }
+    ensures { λ r. ⌜ r ≡ servesBothAt (now (m .entry)) (now (name .entry)) (now (value .entry)) i ⌝ }
+{
+    if !has_name(m, i, name) {
+        return false;
+    }
+    has_value(m, i, name.len(), value)
+}
+
+// The lowest row from `from` on with this name and this value.
+fn find_short(m: &[u8], from: usize, name: &[u8], value: &[u8]) -> Sought
+    requires { ⌜ (from ≤ countOf (now m)) × Ordered (now m) ⌝ }
+    ensures { λ r. ⌜ r ≡ lowestRow (servesBothAt (now (m .entry)) (now (name .entry)) (now (value .entry))) (countOf (now (m .entry)) - from) from ⌝ }
+{
+    let count = count_of(m) as usize;
+    let mut i: usize = from;
+    while i < count {
+        if (name_length_at(m, i) as usize) == name.len() {
+            if has_both(m, i, name, value) {
+                return Sought::Row(i);
+            }
+        }
+        i += 1;
+    }
+    Sought::Nothing
+}
+
+// Are these the last four bytes of the text up to the end of row `i`? A row that serves for a value of four bytes or more has them; where all text up to
+// there is shorter, none is looked at.
+fn ends_with(m: &[u8], i: usize, key: u32) -> bool
+    requires { ⌜ (i < countOf (now m)) × Ordered (now m) ⌝ }
+    ensures { λ r. ⌜ r ≡ endsWith (now (m .entry)) i key ⌝ }
+{
+    if (offset_at(m, i + 1) as usize) < KEY {
+        return false;
+    }
+    last_four(m, text_at(m, i + 1)) == key
+}
+
+// The same of a value with four bytes or more: a row whose text ends in others has another value.
+fn find_long(m: &[u8], from: usize, name: &[u8], value: &[u8]) -> Sought
+    requires { ⌜ (from ≤ countOf (now m)) × (4 ≤ length (now value)) × Ordered (now m) ⌝ }
+    ensures { λ r. ⌜ r ≡ lowestRow (servesBothAt (now (m .entry)) (now (name .entry)) (now (value .entry))) (countOf (now (m .entry)) - from) from ⌝ }
+{
+    let count = count_of(m) as usize;
+    let n = name.len();
+    let key = last_four(value, value.len());
+    let mut i: usize = from;
+    while i < count {
+        if (name_length_at(m, i) as usize) == n {
+            if ends_with(m, i, key) {
+                if has_both(m, i, name, value) {
+                    return Sought::Row(i);
+                }
+            }
+        }
+        i += 1;
+    }
+    Sought::Nothing
+}
+
+// The lowest row from `from` on with this name and this value.
+fn find_both(m: &[u8], from: usize, name: &[u8], value: &[u8]) -> Sought
+    requires { ⌜ (from ≤ countOf (now m)) × Ordered (now m) ⌝ }
+    ensures { λ r. ⌜ r ≡ lowestRow (servesBothAt (now (m .entry)) (now (name .entry)) (now (value .entry))) (countOf (now (m .entry)) - from) from ⌝ }
+{
+    if value.len() < KEY {
+        return find_short(m, from, name, value);
+    }
+    find_long(m, from, name, value)
+}
+
+// Both, where `first` is the lowest row with the name: no row before it has name and value.
+fn pair_from(m: &[u8], first: usize, name: &[u8], value: &[u8]) -> Paired
+    requires { ⌜ (first < countOf (now m)) × Ordered (now m) ⌝ }
+    requires { ⌜ (nameLengthAt (now m) first ≡ length (now name)) × (servesAt (now m) (now name) first ≡ true) ⌝ }
+    requires { ⌜ lowestRow (servesAt (now m) (now name)) (countOf (now m)) 0 ≡ Sought.Row first ⌝ }
+    ensures { λ r. ⌜ r ≡ paired (lowestRow (servesBothAt (now (m .entry)) (now (name .entry)) (now (value .entry))) (countOf (now (m .entry))) 0)
+        (lowestRow (servesAt (now (m .entry)) (now (name .entry))) (countOf (now (m .entry))) 0) ⌝ }
+{
+    if has_value(m, first, name.len(), value) {
+        return Paired::Both(first);
+    }
+    match find_both(m, first + 1, name, value) {
+        Sought::Row(i) => Paired::Both(i),
+        Sought::Nothing => Paired::Name(first),
+    }
+}
+
+// Both in one pass, as long as the lowest row with the name has the value.
 pub fn find_pair(m: &[u8], name: &[u8], value: &[u8]) -> Paired
     requires { ⌜ Ordered (now m) ⌝ }
     ensures { λ r. ⌜ r ≡ paired (lowestRow (servesBothAt (now (m .entry)) (now (name .entry)) (now (value .entry))) (countOf (now (m .entry))) 0)
         (lowestRow (servesAt (now (m .entry)) (now (name .entry))) (countOf (now (m .entry))) 0) ⌝ }
 {
-    let end = row_place(count_of(m) as usize);
     let n = name.len();
-    let mut first: usize = 0;
-    let mut at = ROWS;
-    while at < end {
-        if (name_length_in(m, at) as usize) == n {
-            if has_name_at(m, at, name) {
-                if has_value_at(m, at, value) {
-                    return Paired::Both((at - ROWS) / ROW_LENGTH);
-                }
-                if first == 0 {
-                    first = at;
-                }
-            }
-        }
-        at += ROW_LENGTH;
-    }
-    if first == 0 {
+    if MOST_NAME < n {
         return Paired::Nothing;
     }
-    Paired::Name((first - ROWS) / ROW_LENGTH)
+    let long = n as u8;
+    let count = count_of(m) as usize;
+    let mut i: usize = 0;
+    while i < count {
+        if name_byte_at(m, i) == long {
+            if has_name(m, i, name) {
+                return pair_from(m, i, name, value);
+            }
+        }
+        i += 1;
+    }
+    Paired::Nothing
 }

@@ -31,10 +31,11 @@ use Rattle.model_laws.proofs.DecoderWays.{insert-ways}
 use Rattle.state.specs.Layout.{countOf, decoderRole, decoderLength, encoderRole, encoderLength}
 use Rattle.state.specs.Rows.{rowsOf}
 use Rattle.state.specs.DecoderState.{heldOfRow, decoderOf, overlayDecoder}
-use Rattle.state.specs.EncoderState.{sentOfRow, encoderOf, overlayEncoder}
+use Rattle.state.specs.EncoderState.{encoderOf, overlayEncoder}
 use Rattle.state.specs.Forms.{headOk, formsDecoder, formsEncoder}
 use Rattle.state_laws.proofs.FrontForms.{head-told}
 use Rattle.state_laws.proofs.RowsTest.{length-rowsOf}
+use Rattle.state_laws.proofs.SentRows.{length-sentsOf}
 use Rattle.reply.specs.Result.{Result, refused, stepped}
 use Rattle.decoder.specs.Calls.{readCall}
 use Rattle.encoder.specs.Calls.{insertCall}
@@ -65,7 +66,7 @@ module _ (m : List ℕ) where
 
   sent-count : length (encoderOf m .entries) ≡ countOf m
   unfolding encoderOf
-  sent-count = length-map (rowsOf m 0 (countOf m)) (sentOfRow m) ∙ length-rowsOf m 0 (countOf m)
+  sent-count = length-sentsOf m 0 (countOf m)
 
   -- ---- a read
   abbrev Few : Result → Type 0

@@ -1,36 +1,53 @@
--- The encoder's state and its bytes. After the front stand the references, 76 bytes for each index from 62 to 189: what an entry's delete will be
--- made from. In the base that is a horizon for each kind of part; the other bytes of a reference are free.
-use Prim.Native.Nat.{ℕ}
+-- The encoder's state and its bytes. After the front stand two columns of horizons, by row: what an entry's delete will be made from, for each kind of part.
+use Prim.Native.Nat.{ℕ, zero, suc, _+_}
 use mathlib.Core.List.{List, [], _∷_, map}
 use lib.Dec.{eqb}
 use Rattle.memory.specs.Choice.{pick}
-use Rattle.memory.specs.Bytes.{overlay}
-use Rattle.memory.specs.Numbers.{numberBytes}
+use Rattle.memory.specs.Numbers.{number}
+use Rattle.columns.specs.Columns.{columnBytes}
+use Rattle.columns.specs.Pieces.{Piece, piece, overlays}
 use Rattle.model.specs.Encoder.{Sent, Encoder}
-use Rattle.state.specs.Layout.{encoderRole, nontrailerReference, trailerReference, limitOf, countOf, horizonAt}
-use Rattle.state.specs.Rows.{Row, rowsOf}
+use Rattle.state.specs.Layout.{
+  encoderRole,
+  nontrailerHorizons,
+  trailerHorizons,
+  nontrailerPlace,
+  trailerPlace,
+  limitOf,
+  countOf,
+  indexAt,
+  statusAt,
+}
+use Rattle.state.specs.Rows.{Row, nameAt, valueAt}
 use Rattle.state.specs.Front.{Front, marksOf, overlayFront}
 
 -- ---- reading
 
+-- the horizons of row i
 abbrev pub nontrailerAt : List ℕ → ℕ → ℕ
-nontrailerAt m index = horizonAt m (nontrailerReference index)
+nontrailerAt m i = number 2 m (nontrailerPlace i)
 
 abbrev pub trailerAt : List ℕ → ℕ → ℕ
-trailerAt m index = horizonAt m (trailerReference index)
+trailerAt m i = number 2 m (trailerPlace i)
 
-unfoldable pub sentOfRow : List ℕ → Row → Sent
-sentOfRow m r = record {
-  index = r .index;
-  entry = r .entry;
-  nontrailer = nontrailerAt m (r .index);
-  trailer = trailerAt m (r .index);
-  deleted = eqb (r .status) 1;
+-- the entry in row i
+unfoldable pub sentAt : List ℕ → ℕ → Sent
+sentAt m i = record {
+  index = indexAt m i;
+  entry = record { name = nameAt m i; value = valueAt m i };
+  nontrailer = nontrailerAt m i;
+  trailer = trailerAt m i;
+  deleted = eqb (statusAt m i) 1;
 }
+
+-- the k entries from row i on
+unfoldable pub sentsOf : List ℕ → ℕ → ℕ → List Sent
+sentsOf m i zero = []
+sentsOf m i (suc k) = sentAt m i ∷ sentsOf m (i + 1) k
 
 -- the state that memory stands for
 unfoldable pub encoderOf : List ℕ → Encoder
-encoderOf m = record { limit = limitOf m; entries = map (sentOfRow m) (rowsOf m 0 (countOf m)); written = marksOf m }
+encoderOf m = record { limit = limitOf m; entries = sentsOf m 0 (countOf m); written = marksOf m }
 
 -- ---- writing
 
@@ -40,15 +57,17 @@ rowOfSent e = record { index = e .index; entry = e .entry; status = pick (e .del
 unfoldable pub encoderFront : Encoder → Front
 encoderFront E = record { role = encoderRole; limit = E .limit; rows = map rowOfSent (E .entries); deletes = 0; marks = E .written }
 
--- the two horizons of an entry, stored at its index
-unfoldable pub referenceOver : Sent → List ℕ → List ℕ
-referenceOver e m =
-    overlay (overlay m (nontrailerReference (e .index)) (numberBytes 2 (e .nontrailer))) (trailerReference (e .index)) (numberBytes 2 (e .trailer))
+abbrev pub nontrailerOf : Sent → ℕ
+nontrailerOf e = e .nontrailer
 
-unfoldable pub referencesOver : List Sent → List ℕ → List ℕ
-referencesOver [] m = m
-referencesOver (e ∷ es) m = referencesOver es (referenceOver e m)
+abbrev pub trailerOf : Sent → ℕ
+trailerOf e = e .trailer
+
+-- the two columns
+abbrev pub horizonPieces : List Sent → List Piece
+horizonPieces es =
+    piece nontrailerHorizons (columnBytes 2 (map nontrailerOf es)) ∷ piece trailerHorizons (columnBytes 2 (map trailerOf es)) ∷ []
 
 -- m, with the bytes of the state over it
 unfoldable pub overlayEncoder : Encoder → List ℕ → List ℕ
-overlayEncoder E m = referencesOver (E .entries) (overlayFront (encoderFront E) m)
+overlayEncoder E m = overlays (overlayFront (encoderFront E) m) (horizonPieces (E .entries))

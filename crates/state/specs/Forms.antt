@@ -23,12 +23,13 @@ use Rattle.state.specs.Layout.{
   heldOf,
   countOf,
   deleteCount,
+  beforeFirst,
   indexAt,
+  indexBefore,
   offsetAt,
   nameLengthAt,
   valueLengthAt,
   statusAt,
-  restAt,
   deleteIndexAt,
   horizonAt,
   listedCountAt,
@@ -41,17 +42,29 @@ headOk role bytes m =
     leb bytes (length m) && (eqb (roleOf m) role && (eqb (editionOf m) february
     && (leb (limitOf m) 4096 && (leb (heldOf m) 4096 && (leb (countOf m) 128 && zerosAt 54 m 10)))))
 
--- row i may follow rows with indexes below low whose text ends at the offset: "Memory with two entries at one index .. does not" form a state
-unfoldable pub rowOk : List ℕ → ℕ → ℕ → ℕ → ℕ → Bool
-rowOk m top low offset i =
-    leb low (indexAt m i) && (leb (indexAt m i) top && (eqb (offsetAt m i) offset
-    && (leb (nameLengthAt m i) 255 && (leb (valueLengthAt m i) 2047 && eqb (restAt m i) 0))))
+-- a test that each of the k rows from row i on passes
+unfoldable pub each : (ℕ → Bool) → ℕ → ℕ → Bool
+each test zero i = true
+each test (suc k) i = test i && each test k (i + 1)
 
--- the k rows from row i on, the last. `also` is what each end asks of a row beside. After the last row: "a held size that is not their sum" does not
-unfoldable pub rowsOk : (ℕ → Bool) → List ℕ → ℕ → ℕ → ℕ → ℕ → ℕ → Bool
-rowsOk also m top zero i low offset = eqb (offset + 32 * i) (heldOf m)
-rowsOk also m top (suc k) i low offset =
-    rowOk m top low offset i && (also i && rowsOk also m top k (i + 1) (indexAt m i + 1) (offset + (nameLengthAt m i + valueLengthAt m i)))
+-- "Memory with two entries at one index .. does not" form a state: each index is above the one before it
+unfoldable pub indexOk : List ℕ → ℕ → Bool
+indexOk m i = ltb (indexBefore m i) (indexAt m i)
+
+-- the text of a row ends within the table's, and has room for its name and a value of at most 2,047 bytes. The length of a name has one byte
+unfoldable pub textOk : List ℕ → ℕ → Bool
+textOk m i =
+    leb (offsetAt m (i + 1)) 4096 && (leb (offsetAt m i + nameLengthAt m i) (offsetAt m (i + 1)) && leb (valueLengthAt m i) 2047)
+
+-- n indexes from 62 to top, in order, and texts from 0 on: "a held size that is not their sum" does not form a state
+unfoldable pub columnsOk : List ℕ → ℕ → ℕ → Bool
+columnsOk m top n =
+    eqb (indexBefore m 0) beforeFirst && (leb (indexBefore m n) top && (eqb (offsetAt m 0) 0 && (eqb (offsetAt m n + 32 * n) (heldOf m)
+    && each (indexOk m) n 0)))
+
+-- n rows
+unfoldable pub rowsOk : List ℕ → ℕ → ℕ → Bool
+rowsOk m top n = columnsOk m top n && each (textOk m) n 0
 
 -- ---- decoder
 
@@ -86,15 +99,16 @@ deletesOk m (suc n) k = listOk m (nontrailerList k) && (listOk m (trailerList k)
 -- every delete has its row, and no index has two deletes
 unfoldable pub formsDecoder : List ℕ → Bool
 formsDecoder m =
-    headOk decoderRole decoderLength m && (leb (deleteCount m) 256 && (rowsOk (statusOk m) m largest (countOf m) 0 62 0
-    && (eqb (pointing m (countOf m) 0) (deleteCount m) && deletesOk m (deleteCount m) 0)))
+    headOk decoderRole decoderLength m && (leb (deleteCount m) 256 && (rowsOk m largest (countOf m) && (each (statusOk m) (countOf m) 0
+    && (eqb (pointing m (countOf m) 0) (deleteCount m) && deletesOk m (deleteCount m) 0))))
 
 -- ---- encoder
 
 -- under deletion or not, and both horizons at most 4,096
 unfoldable pub referenceOk : List ℕ → ℕ → Bool
-referenceOk m i = leb (statusAt m i) 1 && (leb (nontrailerAt m (indexAt m i)) 4096 && leb (trailerAt m (indexAt m i)) 4096)
+referenceOk m i = leb (statusAt m i) 1 && (leb (nontrailerAt m i) 4096 && leb (trailerAt m i) 4096)
 
 -- "the lowest from 62 that is not held" is at most 189
 unfoldable pub formsEncoder : List ℕ → Bool
-formsEncoder m = headOk encoderRole encoderLength m && (eqb (deleteCount m) 0 && rowsOk (referenceOk m) m 189 (countOf m) 0 62 0)
+formsEncoder m =
+    headOk encoderRole encoderLength m && (eqb (deleteCount m) 0 && (rowsOk m 189 (countOf m) && each (referenceOk m) (countOf m) 0))

@@ -1,16 +1,17 @@
--- The part of the state memory that both ends share: head, marks, rows and text, 7,232 bytes.
+-- The part of the state memory that both ends share: head, marks, columns and text.
 use Prim.Native.Nat.{ℕ}
 use mathlib.Core.Bool.{false, not}
-use mathlib.Core.List.{List, [], _∷_, _++_}
+use mathlib.Core.List.{List, [], _∷_, _++_, map}
 use lib.ListN.{length, replicate}
 use lib.Dec.{ltb}
 use Rattle.memory.specs.Choice.{pick}
-use Rattle.memory.specs.Bytes.{overlay}
 use Rattle.memory.specs.Numbers.{numberBytes}
+use Rattle.columns.specs.Columns.{columnBytes}
+use Rattle.columns.specs.Pieces.{Piece, piece, overlays}
 use Rattle.marks.specs.Marks.{isSet, wordsBytes}
 use Rattle.model.specs.Parts.{nontrailer, trailer, Marks, streams}
-use Rattle.state.specs.Layout.{february, marksPlace, rowsPlace, textPlace}
-use Rattle.state.specs.Rows.{Row, rowsBytes, textBytes, rowsSize}
+use Rattle.state.specs.Layout.{february, marksPlace, indexesPlace, offsetsPlace, nameLengthsPlace, statusesPlace, textPlace, beforeFirst}
+use Rattle.state.specs.Rows.{Row, rowIndex, nameLength, rowStatus, offsetsFrom, textBytes, rowsSize}
 
 pub record Front : Type 0 where
   pub role : ℕ
@@ -41,8 +42,18 @@ headBytes f =
 unfoldable pub marksBytes : Marks → List ℕ
 marksBytes marks = wordsBytes (λ s. not (marks s nontrailer)) 0 64 ++ wordsBytes (λ s. not (marks s trailer)) 0 64
 
+-- its pieces, in the order of their places
+unfoldable pub frontPieces : Front → List Piece
+frontPieces f =
+    piece 0 (headBytes f)
+    ∷ piece (marksPlace nontrailer) (marksBytes (f .marks))
+    ∷ piece indexesPlace (columnBytes 4 (beforeFirst ∷ map rowIndex (f .rows)))
+    ∷ piece offsetsPlace (columnBytes 2 (offsetsFrom 0 (f .rows)))
+    ∷ piece nameLengthsPlace (columnBytes 1 (map nameLength (f .rows)))
+    ∷ piece statusesPlace (columnBytes 2 (map rowStatus (f .rows)))
+    ∷ piece textPlace (textBytes (f .rows))
+    ∷ []
+
 -- m, with the bytes of f over it
 unfoldable pub overlayFront : Front → List ℕ → List ℕ
-overlayFront f m =
-    overlay (overlay (overlay (overlay m 0 (headBytes f)) (marksPlace nontrailer) (marksBytes (f .marks))) rowsPlace (rowsBytes 0 (f .rows)))
-    textPlace (textBytes (f .rows))
+overlayFront f m = overlays m (frontPieces f)

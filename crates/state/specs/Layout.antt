@@ -1,4 +1,4 @@
--- The places of the state memory (docs/STATE.md). They are fixed once, for the base and for all later requests, so that none ever moves.
+-- The places of the state memory (docs/STATE.md). Head, marks, columns and text keep them in later requests.
 use Prim.Native.Nat.{ℕ, _+_, _*_, _-_}
 use mathlib.Core.List.{List}
 use lib.ListN.{getD}
@@ -22,7 +22,7 @@ encoderRole = 2
 abbrev pub february : ℕ
 february = 2
 
--- head, marks, rows and text, which both ends have
+-- head, marks, columns and text, which both ends have, and room behind them
 abbrev pub frontLength : ℕ
 frontLength = 7232
 
@@ -31,16 +31,28 @@ abbrev pub marksPlace : Part → ℕ
 marksPlace nontrailer = 64
 marksPlace trailer = 576
 
-abbrev pub rowsPlace : ℕ
-rowsPlace = 1088
+-- the columns: of each row its index, where its text starts, how long its name is, and its status. In front of the first index stands 61, below every
+-- index of the table; behind the last row's text offset stands where the text ends
+abbrev pub indexesPlace : ℕ
+indexesPlace = 1088
 
-abbrev pub rowPlace : ℕ → ℕ
-rowPlace i = 1088 + 16 * i
+abbrev pub offsetsPlace : ℕ
+offsetsPlace = 1604
+
+abbrev pub nameLengthsPlace : ℕ
+nameLengthsPlace = 1862
+
+abbrev pub statusesPlace : ℕ
+statusesPlace = 1990
 
 abbrev pub textPlace : ℕ
-textPlace = 3136
+textPlace = 2246
 
--- after the text: at the decoder the deletes in order of arrival, at the encoder what an entry's delete will be made from, by its index
+-- what stands in front of the first index
+abbrev pub beforeFirst : ℕ
+beforeFirst = 61
+
+-- after the text: at the decoder the deletes in order of arrival
 abbrev pub deletesPlace : ℕ
 deletesPlace = 7232
 
@@ -57,15 +69,18 @@ trailerList k = deletePlace k + 40
 abbrev pub listedPlace : ℕ → ℕ
 listedPlace at = at + 4
 
-abbrev pub referencePlace : ℕ → ℕ
-referencePlace index = 7232 + 76 * (index - 62)
+-- at the encoder what an entry's delete will be made from: a column of horizons for each kind of part, by row
+abbrev pub nontrailerHorizons : ℕ
+nontrailerHorizons = 7232
 
--- the horizon for each kind of part
-abbrev pub nontrailerReference : ℕ → ℕ
-nontrailerReference index = referencePlace index
+abbrev pub trailerHorizons : ℕ
+trailerHorizons = 7488
 
-abbrev pub trailerReference : ℕ → ℕ
-trailerReference index = referencePlace index + 38
+abbrev pub nontrailerPlace : ℕ → ℕ
+nontrailerPlace i = 7232 + 2 * i
+
+abbrev pub trailerPlace : ℕ → ℕ
+trailerPlace i = 7488 + 2 * i
 
 -- ---- the head: role, edition, limit, held size, entry count, number of deletes, then zeros
 abbrev pub headLength : ℕ
@@ -101,44 +116,42 @@ countOf m = number 2 m countPlace
 abbrev pub deleteCount : List ℕ → ℕ
 deleteCount m = number 2 m deleteCountPlace
 
--- ---- the row at a place: index, text offset, name length, value length, status, zeros
-abbrev pub offsetIn : List ℕ → ℕ → ℕ
-offsetIn m at = number 2 m (at + 4)
-
-abbrev pub nameLengthIn : List ℕ → ℕ → ℕ
-nameLengthIn m at = number 2 m (at + 6)
-
-abbrev pub valueLengthIn : List ℕ → ℕ → ℕ
-valueLengthIn m at = number 2 m (at + 8)
-
-abbrev pub statusIn : List ℕ → ℕ → ℕ
-statusIn m at = number 2 m (at + 10)
-
 -- ---- row i
+abbrev pub indexPlace : ℕ → ℕ
+indexPlace i = 1092 + 4 * i
+
 abbrev pub offsetPlace : ℕ → ℕ
-offsetPlace i = rowPlace i + 4
+offsetPlace i = 1604 + 2 * i
+
+abbrev pub nameLengthPlace : ℕ → ℕ
+nameLengthPlace i = 1862 + i
 
 abbrev pub statusPlace : ℕ → ℕ
-statusPlace i = rowPlace i + 10
+statusPlace i = 1990 + 2 * i
 
 abbrev pub indexAt : List ℕ → ℕ → ℕ
-indexAt m i = number 4 m (rowPlace i)
+indexAt m i = number 4 m (indexPlace i)
+
+-- the index of the row before it, and in front of the first row 61
+abbrev pub indexBefore : List ℕ → ℕ → ℕ
+indexBefore m i = number 4 m (1088 + 4 * i)
 
 abbrev pub offsetAt : List ℕ → ℕ → ℕ
-offsetAt m i = offsetIn m (rowPlace i)
+offsetAt m i = number 2 m (offsetPlace i)
 
 abbrev pub nameLengthAt : List ℕ → ℕ → ℕ
-nameLengthAt m i = nameLengthIn m (rowPlace i)
+nameLengthAt m i = number 1 m (nameLengthPlace i)
+
+-- its text ends where that of the next row starts; of it the name takes the first bytes and the value the others
+abbrev pub textLengthAt : List ℕ → ℕ → ℕ
+textLengthAt m i = offsetAt m (i + 1) - offsetAt m i
 
 abbrev pub valueLengthAt : List ℕ → ℕ → ℕ
-valueLengthAt m i = valueLengthIn m (rowPlace i)
+valueLengthAt m i = textLengthAt m i - nameLengthAt m i
 
 -- at the decoder 0, or the place of the entry's delete and one; at the encoder 1 where the entry is under deletion, else 0
 abbrev pub statusAt : List ℕ → ℕ → ℕ
-statusAt m i = statusIn m (rowPlace i)
-
-abbrev pub restAt : List ℕ → ℕ → ℕ
-restAt m i = number 4 m (rowPlace i + 12)
+statusAt m i = number 2 m (statusPlace i)
 
 -- ---- delete k, and the list at a place
 abbrev pub deleteIndexAt : List ℕ → ℕ → ℕ

@@ -3,7 +3,6 @@ use Prim.Native.Nat.{ℕ, zero, suc, _+_}
 use mathlib.Core.List.{List, [], _∷_, _++_}
 use lib.ListN.{length}
 use Rattle.memory.specs.Bytes.{part}
-use Rattle.memory.specs.Numbers.{numberBytes}
 use Rattle.statics.specs.Table.{Entry}
 use Rattle.model.specs.Table.{size, total}
 use Rattle.state.specs.Layout.{indexAt, offsetAt, nameLengthAt, valueLengthAt, statusAt, textPlace}
@@ -38,18 +37,17 @@ rowsOf m i (suc k) = rowAt m i ∷ rowsOf m (i + 1) k
 abbrev pub textOf : Entry → List ℕ
 textOf e = e .name ++ e .value
 
--- the 16 bytes of a row: index 4, text offset 2, name length 2, value length 2, status 2, zeros 4
-unfoldable pub rowLine : ℕ → ℕ → ℕ → ℕ → ℕ → List ℕ
-rowLine index offset name value status =
-    numberBytes 4 index ++ (numberBytes 2 offset ++ (numberBytes 2 name ++ (numberBytes 2 value ++ (numberBytes 2 status ++ numberBytes 4 0))))
+-- the numbers of the columns
+abbrev pub nameLength : Row → ℕ
+nameLength r = length (r .entry .name)
 
-unfoldable pub rowBytes : ℕ → Row → List ℕ
-rowBytes offset r = rowLine (r .index) offset (length (r .entry .name)) (length (r .entry .value)) (r .status)
+abbrev pub rowStatus : Row → ℕ
+rowStatus r = r .status
 
--- rows whose text starts at the offset
-unfoldable pub rowsBytes : ℕ → List Row → List ℕ
-rowsBytes offset [] = []
-rowsBytes offset (r ∷ rs) = rowBytes offset r ++ rowsBytes (offset + length (textOf (r .entry))) rs
+-- where the texts of rows start that stand from the offset on, and where the last one ends
+unfoldable pub offsetsFrom : ℕ → List Row → List ℕ
+offsetsFrom offset [] = offset ∷ []
+offsetsFrom offset (r ∷ rs) = offset ∷ offsetsFrom (offset + length (textOf (r .entry))) rs
 
 unfoldable pub textBytes : List Row → List ℕ
 textBytes [] = []

@@ -1,7 +1,7 @@
-// The places of the state memory; docs/STATE.md has them byte by byte. They are fixed once, so that none ever moves.
+// The places of the state memory; docs/STATE.md has them byte by byte. Head, marks, columns and text keep them in later requests.
 ghost use mathlib.Core.Path.{_≡_};
 ghost use Prim.Native.Nat.{ℕ, _≤_};
-ghost use Rattle.state.specs.Layout.{rowPlace, deletePlace};
+ghost use Rattle.state.specs.Layout.{deletePlace};
 
 // The bytes that each end lends. Longer memory is accepted, and what lies behind them is never touched.
 pub const DECODER_LENGTH: usize = 35_912;
@@ -19,11 +19,18 @@ pub const NONTRAILER_MARKS: usize = 64;
 
 pub const TRAILER_MARKS: usize = 576;
 
-pub const ROWS: usize = 1_088;
+// The columns. In front of the first index stands 61.
+pub const INDEXES: usize = 1_092;
 
-pub const TEXT: usize = 3_136;
+pub const OFFSETS: usize = 1_604;
 
-// At the decoder the deletes, at the encoder the references.
+pub const NAME_LENGTHS: usize = 1_862;
+
+pub const STATUSES: usize = 1_990;
+
+pub const TEXT: usize = 2_246;
+
+// The decoder's deletes.
 pub const DELETES: usize = 7_232;
 
 // What tables may hold.
@@ -32,8 +39,6 @@ pub const PLACES: usize = 128;
 pub const DELETE_PLACES: usize = 256;
 
 pub const MOST_HELD: u16 = 4_096;
-
-pub const MOST_NAME: u16 = 255;
 
 pub const MOST_VALUE: u16 = 2_047;
 
@@ -49,18 +54,8 @@ pub const MOST_LISTED: usize = 16;
 
 pub const LISTED_BYTES: usize = 32;
 
-// The bytes of a row, of a delete, and of what an encoder keeps for an index.
-pub const ROW_LENGTH: usize = 16;
-
+// The bytes of a delete.
 pub const DELETE_LENGTH: usize = 76;
-
-// Where row `i` stands.
-pub fn row_place(i: usize) -> usize
-    requires { ⌜ i ≤ 256 ⌝ }
-    ensures { λ r. ⌜ r ≡ rowPlace i ⌝ }
-{
-    ROWS + ROW_LENGTH * i
-}
 
 // Where delete `k` stands.
 pub fn delete_place(k: usize) -> usize

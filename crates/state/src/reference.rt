@@ -1,26 +1,26 @@
-// What an encoder keeps for an entry's delete, by the entry's index: in the base a horizon for each kind of part, 38 bytes apart.
+// What an encoder keeps for an entry's delete, by the entry's row: a horizon for each kind of part, in a column of its own.
 ghost use mathlib.Core.Path.{_≡_};
 ghost use Prim.Native.Nat.{ℕ, _≤_};
-ghost use Rattle.state.specs.Layout.{nontrailerReference, trailerReference};
-use crate::layout::DELETE_LENGTH;
-use crate::layout::DELETES;
-use integers::number::TableIndex;
+ghost use Rattle.state.specs.Layout.{nontrailerPlace, trailerPlace};
 
-// Where the horizon of the trailers stands in what an index has.
-const TRAILER: usize = 38;
+pub const NONTRAILER_HORIZONS: usize = 7_232;
 
-// Where the horizon of the non-trailer blocks stands that refer to the entry with this index.
-pub fn nontrailer_reference(index: TableIndex) -> usize
-    requires { ⌜ (62 ≤ index .value) × (index .value ≤ 189) ⌝ }
-    ensures { λ r. ⌜ r ≡ nontrailerReference (index .value) ⌝ }
+pub const TRAILER_HORIZONS: usize = 7_488;
+
+pub const HORIZON_LENGTH: usize = 2;
+
+// Where the horizon of the non-trailer blocks stands that refer to the entry in row `i`.
+pub fn nontrailer_place(i: usize) -> usize
+    requires { ⌜ i ≤ 256 ⌝ }
+    ensures { λ r. ⌜ r ≡ nontrailerPlace i ⌝ }
 {
-    DELETES + DELETE_LENGTH * ((index.value - TableIndex::FIRST) as usize)
+    NONTRAILER_HORIZONS + HORIZON_LENGTH * i
 }
 
 // Where that of the trailer blocks stands.
-pub fn trailer_reference(index: TableIndex) -> usize
-    requires { ⌜ (62 ≤ index .value) × (index .value ≤ 189) ⌝ }
-    ensures { λ r. ⌜ r ≡ trailerReference (index .value) ⌝ }
+pub fn trailer_place(i: usize) -> usize
+    requires { ⌜ i ≤ 256 ⌝ }
+    ensures { λ r. ⌜ r ≡ trailerPlace i ⌝ }
 {
-    nontrailer_reference(index) + TRAILER
+    TRAILER_HORIZONS + HORIZON_LENGTH * i
 }

@@ -10,7 +10,7 @@ use lib.ListN.{length, getD, length-map}
 use borrow.Author.Tests.{eqb-true, leb-true, eq-eqb, ne-eqb, le-leb}
 use Rattle.memory.specs.Choice.{pick}
 use Rattle.memory.specs.Bytes.{Has, Small}
-use Rattle.memory.proofs.Order.{split, pick-false}
+use Rattle.memory.proofs.Order.{pick-false}
 use Rattle.integers.specs.Integer.{largest}
 use Rattle.model.specs.Table.{Ascending, look}
 use Rattle.model.specs.Parts.{Delete}
@@ -21,12 +21,12 @@ use Rattle.state.specs.Layout.{decoderLength, decoderRole, deletesPlace, limitO
 use Rattle.state.specs.Rows.{Row, rowIndex, rowAt, rowsOf}
 use Rattle.state.specs.Front.{Front, marksOf}
 use Rattle.state.specs.DecoderState.{heldOfRow, deletesOf, decoderOf, deletesBytes, rowOfHeld, decoderFront}
-use Rattle.state.specs.Forms.{headOk, rowsOk, statusOk, pointing, deletesOk, formsDecoder}
+use Rattle.state.specs.Forms.{headOk, each, rowsOk, statusOk, pointing, deletesOk, formsDecoder}
 use Rattle.state_laws.specs.Laws.{FitsDecoder}
 use Rattle.state_laws.proofs.FrontHolds.{HoldsFront}
 use Rattle.state_laws.proofs.RowsTest.{both, length-rowsOf}
-use Rattle.state_laws.proofs.FrontRead.{read-deletes, read-count, read-rows}
-use Rattle.state_laws.proofs.FrontForms.{frontOf, HeadTold, head-told, rows-good, rows-ascending, also-each, front-holds, holds-head, holds-rows}
+use Rattle.state_laws.proofs.FrontRead.{read-deletes, read-rows}
+use Rattle.state_laws.proofs.FrontForms.{frontOf, HeadTold, head-told, rows-good, rows-ascending, front-holds, holds-head, holds-rows}
 use Rattle.state_laws.proofs.FrontMarks.{marks-below}
 use Rattle.state_laws.proofs.Each.{Each, each-found}
 use Rattle.state_laws.proofs.Look.{found-made, asc-made}
@@ -71,19 +71,15 @@ module _ (m : List ℕ) (i : ℕ) where
       both _ _ (le-leb s (deleteCount m) (omega arith)) (eq-eqb _ _ (sym (index-at m (s - 1) low) ∙ p .1)))
 
 module _ (m : List ℕ) where
-  rows-point : (k i : ℕ) → ((j : ℕ) → i ≤ j → j < i + k → statusOk m j ≡ true) → Each (Points (deletesIn m)) (rowsOf m i k)
-  unfolding rowsOf
-  rows-point zero i f = tt
-  rows-point (suc k) i f =
-      (status-points m i (f i (omega arith) (omega arith)), rows-point k (i + 1) (λ j a b. f j (omega arith) (omega arith)))
+  rows-point : (k i : ℕ) → each (statusOk m) k i ≡ true → Each (Points (deletesIn m)) (rowsOf m i k)
+  unfolding each rowsOf
+  rows-point zero i h = tt
+  rows-point (suc k) i h = let p = and-both (statusOk m i) _ h in (status-points m i (p .0), rows-point k (i + 1) (p .1))
 
-  point-rows : (k i : ℕ) → Each (Points (deletesIn m)) (rowsOf m i k) → (j : ℕ) → i ≤ j → j < i + k → statusOk m j ≡ true
-  unfolding rowsOf
-  point-rows zero i f j a b = absurd (omega arith)
-  point-rows (suc k) i f j a b =
-      split i j
-      (λ h. point-rows k (i + 1) (f .1) j (omega arith) (omega arith))
-      (λ h. let e : i ≡ j = omega arith in rw e at (points-status m i (f .0)))
+  point-rows : (k i : ℕ) → Each (Points (deletesIn m)) (rowsOf m i k) → each (statusOk m) k i ≡ true
+  unfolding each rowsOf
+  point-rows zero i f = refl
+  point-rows (suc k) i f = both _ _ (points-status m i (f .0)) (point-rows k (i + 1) (f .1))
 
 -- ---- memory that passes
 
@@ -91,7 +87,8 @@ module _ (m : List ℕ) where
 record Told (m : List ℕ) : Type 0 where
   head : headOk decoderRole decoderLength m ≡ true
   few : deleteCount m ≤ 256
-  rows : rowsOk (statusOk m) m largest (countOf m) 0 62 0 ≡ true
+  rows : rowsOk m largest (countOf m) ≡ true
+  statuses : each (statusOk m) (countOf m) 0 ≡ true
   counted : pointing m (countOf m) 0 ≡ deleteCount m
   deletes : deletesOk m (deleteCount m) 0 ≡ true
 
@@ -102,7 +99,8 @@ told m forms =
     let q = and-both _ _ (p .1) in
     let r = and-both _ _ (q .1) in
     let s = and-both _ _ (r .1) in
-    record { head = p .0; few = leb-true _ _ (q .0); rows = r .0; counted = eqb-true _ _ (s .0); deletes = s .1 }
+    let t = and-both _ _ (s .1) in
+    record { head = p .0; few = leb-true _ _ (q .0); rows = r .0; statuses = s .0; counted = eqb-true _ _ (t .0); deletes = t .1 }
 
 module _ (m : List ℕ) (small : Small m) (t : Told m) where
   abbrev rows : List Row
@@ -112,12 +110,12 @@ module _ (m : List ℕ) (small : Small m) (t : Told m) where
   front-told = head-told decoderRole decoderLength m (t .head)
 
   order : Ascending rowIndex 62 rows
-  order = rows-ascending (statusOk m) m largest (t .rows)
+  order = rows-ascending m largest small (t .rows)
 
   tied : Tied (deletesIn m) rows
   tied =
       counted-tied (deletesIn m) 62 rows order
-      (rows-point m (countOf m) 0 (λ j a b. also-each (statusOk m) m largest (t .rows) j (omega arith)))
+      (rows-point m (countOf m) 0 (t .statuses))
       (sym (pointing-rows m (countOf m) 0) ∙ t .counted ∙ sym (length-deletesOf m 0 (deleteCount m)))
 
   lists : Has m deletesPlace (deletesBytes (deletesIn m)) × Each FineLists (deletesIn m)
@@ -135,7 +133,7 @@ module _ (m : List ℕ) (small : Small m) (t : Told m) where
   }
 
   read-front : HoldsFront (frontOf m) m
-  read-front = front-holds (statusOk m) m largest decoderRole decoderLength small (omega arith) (t .head) (t .rows)
+  read-front = front-holds m largest small (t .rows) decoderRole decoderLength (omega arith) (t .head)
 
   told-fits : FitsDecoder (decoderOf m)
   unfolding decoderOf
@@ -145,7 +143,7 @@ module _ (m : List ℕ) (small : Small m) (t : Told m) where
       fits = rw (rows-size rows) (read-front .fine .fits);
       few = omega (arith, front-told .count, length-map rows heldOfRow, length-rowsOf m 0 (countOf m));
       order = asc-made heldIndex heldOfRow 62 rows order;
-      entries = each-found FineHeld heldIndex (map heldOfRow rows) (good-fine 62 rows (omega arith) (rows-good (statusOk m) m largest (t .rows)));
+      entries = each-found FineHeld heldIndex (map heldOfRow rows) (good-fine 62 rows (omega arith) (rows-good m largest small (t .rows)));
       deletes = λ i d e.
           let f = each-found FineLists deleteIndex (deletesIn m) (lists .1) i d e in
           let h = each-found (λ x. isSome (look rowIndex (x .index) rows) ≡ true) deleteIndex (deletesIn m) (tied .held) i d e in
@@ -184,8 +182,8 @@ holds-forms-decoder D m H =
     rw (same-rows, same-deletes) (tied-points ds 62 rs order tied) in
     both _ _ (holds-head f m (H .front) decoderLength (H .long) (H .fits .forms .limit))
     (both _ _ (le-leb (deleteCount m) 256 (omega (arith, fits-few D (H .fits))))
-    (both _ _ (holds-rows f m (H .front) (statusOk m) largest (fits-good D (H .fits))
-    (λ i h. point-rows m (countOf m) 0 points i (omega arith) (omega (arith, read-count f m (H .front)))))
+    (both _ _ (holds-rows f m (H .front) largest (omega arith) (fits-good D (H .fits)))
+    (both _ _ (point-rows m (countOf m) 0 points)
     (both _ _ (eq-eqb (pointing m (countOf m) 0) (deleteCount m)
     (pointing-rows m (countOf m) 0 ∙ ap pointed same-rows ∙ tied-counted ds 62 rs order tied ∙ sym count))
-    (rw count (deletes-back m 0 ds (fits-lists D (H .fits)) (H .deletes) .1)))))
+    (rw count (deletes-back m 0 ds (fits-lists D (H .fits)) (H .deletes) .1))))))

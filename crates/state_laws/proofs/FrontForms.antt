@@ -1,19 +1,20 @@
 -- Memory that passes the test of the head and of the rows holds the front that it is read as, and memory that holds a front with good rows passes it.
 -- The head number by number; the rows by what they are read as.
-use Prim.Native.Nat.{ℕ, _+_, _≤_, _<_}
+use Prim.Native.Nat.{ℕ, _+_, _≤_}
 use mathlib.Core.Path.{_≡_, refl, sym, ap, subst, _∙_}
 use native.Mathlib.Omega.{arith}
 use mathlib.Core.Bool.{Bool, true, false, not, Bool·not-not}
-use mathlib.Core.List.{List}
+use mathlib.Core.List.{List, _∷_, map}
 use borrow.Author.Tests.{leb-true, eqb-true, lt-ltb, le-leb, eq-eqb}
 use lib.Dec.{ltb}
-use lib.ListN.{length, replicate}
+use lib.ListN.{length, length-map, replicate}
 use Rattle.memory.specs.Bytes.{Has, Small}
 use Rattle.memory.specs.Compare.{zerosAt}
 use Rattle.memory.proofs.Numbers.{number-bound}
 use Rattle.memory.proofs.Order.{pick-true}
 use Rattle.memory.proofs.Places.{has-join}
 use Rattle.memory.proofs.Zeros.{zeros-has}
+use Rattle.columns.proofs.Columns.{column-has}
 use Rattle.marks.specs.Marks.{isSet, wordsBytes}
 use Rattle.marks.proofs.Words.{words-length, words-has, words-same}
 use Rattle.model.specs.Parts.{Part, nontrailer, trailer, streams}
@@ -23,6 +24,11 @@ use Rattle.state.specs.Layout.{
   february,
   frontLength,
   marksPlace,
+  indexesPlace,
+  offsetsPlace,
+  nameLengthsPlace,
+  statusesPlace,
+  beforeFirst,
   roleOf,
   editionOf,
   limitOf,
@@ -30,14 +36,14 @@ use Rattle.state.specs.Layout.{
   countOf,
   deleteCount,
 }
-use Rattle.state.specs.Rows.{Row, rowIndex, rowsOf, rowsSize}
+use Rattle.state.specs.Rows.{Row, rowIndex, nameLength, rowStatus, rowsOf, offsetsFrom, rowsSize}
 use Rattle.state.specs.Front.{Front, marksOf, headBytes, marksBytes}
 use Rattle.state.specs.Forms.{headOk, rowsOk}
 use Rattle.state_laws.proofs.FrontHolds.{HoldsFront}
-use Rattle.state_laws.proofs.FrontLengths.{rowsSize-text}
+use Rattle.state_laws.proofs.FrontLengths.{rowsSize-text, length-offsets}
 use Rattle.state_laws.proofs.NumberRuns.{number-bytes, number-join}
-use Rattle.state_laws.proofs.RowsRead.{rows-has, rows-text, rows-fine}
-use Rattle.state_laws.proofs.RowsTest.{length-rowsOf, GoodRows, good-ascending, asked-each, rows-each, rows-of, size-of, both, rows-pass}
+use Rattle.state_laws.proofs.RowsRead.{rows-columns, rows-text, rows-fine}
+use Rattle.state_laws.proofs.RowsTest.{length-rowsOf, both, GoodRows, good-ascending, columns-told, rows-each, rows-of, size-of, rows-pass}
 use Rattle.state_laws.proofs.FrontRead.{
   afterCount,
   afterHeld,
@@ -48,6 +54,8 @@ use Rattle.state_laws.proofs.FrontRead.{
   read-held,
   read-count,
   read-zeros,
+  read-guard,
+  read-start,
   read-each,
 }
 
@@ -127,39 +135,41 @@ module _ (m : List ℕ) (small : Small m) (long : frontLength ≤ length m) wher
     ),
   )
 
-module _ (also : ℕ → Bool) (m : List ℕ) (top : ℕ) (rows : rowsOk also m top (countOf m) 0 62 0 ≡ true) where
+module _ (m : List ℕ) (top : ℕ) (small : Small m) (rows : rowsOk m top (countOf m) ≡ true) where
   pub rows-good : GoodRows top 62 (rowsOf m 0 (countOf m))
-  rows-good = rows-each also m top (countOf m) 0 62 0 rows
+  rows-good = rows-each m top (countOf m) rows small
 
   pub rows-ascending : Ascending rowIndex 62 (rowsOf m 0 (countOf m))
   rows-ascending = good-ascending top 62 (rowsOf m 0 (countOf m)) rows-good
 
-  pub also-each : (i : ℕ) → i < countOf m → also i ≡ true
-  also-each i h = asked-each also m top (countOf m) 0 62 0 rows i (omega arith) (omega arith)
-
-pub front-holds : (also : ℕ → Bool) (m : List ℕ) (top who bytes : ℕ) → Small m → frontLength ≤ bytes → headOk who bytes m ≡ true
-    → rowsOk also m top (countOf m) 0 62 0 ≡ true → HoldsFront (frontOf m) m
-front-holds also m top who bytes small enough head rows =
-    let T = head-told who bytes m head in
-    let rs : List Row = rowsOf m 0 (countOf m) in
-    let long : frontLength ≤ length m = omega (arith, T .long) in
-    let R = rows-of also m top long (T .held) (countOf m) 0 62 0 rows in
-    let n : length rs ≡ countOf m = length-rowsOf m 0 (countOf m) in
-    let size : heldOf m ≡ rowsSize rs = omega (arith, size-of also m top long (T .held) (countOf m) 0 62 0 rows, rowsSize-text rs) in
-    record {
-      long = long;
-      fine = record {
-        limit = number-bound 2 m 2 small;
-        few = omega (arith, T .count);
-        fits = omega (arith, T .held);
-        deletes = number-bound 2 m 8 small;
-        rows = rows-fine m rs 0 0 small R;
-      };
-      head = head-has m small long (frontOf m) refl (T .edition) refl size (sym n) refl (T .zeros);
-      marks = marks-has m small long;
-      rows = rows-has m rs 0 0 small (omega (arith, T .count)) R;
-      text = rows-text m rs 0 0 (omega (arith, T .held, rowsSize-text rs)) R;
-    }
+  pub front-holds : (who bytes : ℕ) → frontLength ≤ bytes → headOk who bytes m ≡ true → HoldsFront (frontOf m) m
+  front-holds who bytes enough head =
+      let T = head-told who bytes m head in
+      let rs : List Row = rowsOf m 0 (countOf m) in
+      let long : frontLength ≤ length m = omega (arith, T .long) in
+      let few : countOf m ≤ 128 = T .count in
+      let R = rows-of m top (countOf m) rows long in
+      let C = columns-told m top (countOf m) rows in
+      let K = rows-columns m rs (C .start) R in
+      let n : length rs ≡ countOf m = length-rowsOf m 0 (countOf m) in
+      let size : heldOf m ≡ rowsSize rs = omega (arith, size-of m top (countOf m) rows long, rowsSize-text rs) in
+      record {
+        long = long;
+        fine = record {
+          limit = number-bound 2 m 2 small;
+          few = omega arith;
+          fits = omega (arith, T .held);
+          deletes = number-bound 2 m 8 small;
+          rows = rows-fine m rs 0 0 small R;
+        };
+        head = head-has m small long (frontOf m) refl (T .edition) refl size (sym n) refl (T .zeros);
+        marks = marks-has m small long;
+        indexes = column-has 4 m indexesPlace (beforeFirst ∷ map rowIndex rs) small (omega (arith, length-map rs rowIndex)) (C .guard, K .indexes);
+        offsets = column-has 2 m offsetsPlace (offsetsFrom 0 rs) small (omega (arith, length-offsets 0 rs)) (K .offsets);
+        names = column-has 1 m nameLengthsPlace (map nameLength rs) small (omega (arith, length-map rs nameLength)) (K .names);
+        statuses = column-has 2 m statusesPlace (map rowStatus rs) small (omega (arith, length-map rs rowStatus)) (K .statuses);
+        text = rows-text m rs 0 0 (omega (arith, T .held, rowsSize-text rs)) R;
+      }
 
 -- ---- to the test
 
@@ -175,9 +185,8 @@ module _ (f : Front) (m : List ℕ) (H : HoldsFront f m) where
       (both _ _ (le-leb (countOf m) 128 (omega (arith, read-count f m H, H .fine .few)))
       (read-zeros f m H))))))
 
-  pub holds-rows : (also : ℕ → Bool) (top : ℕ) → GoodRows top 62 (f .rows) → ((i : ℕ) → i < length (f .rows) → also i ≡ true)
-      → rowsOk also m top (countOf m) 0 62 0 ≡ true
-  holds-rows also top G asked =
-      ap (λ (k : ℕ). rowsOk also m top k 0 62 0) (read-count f m H)
-      ∙ rows-pass also m top (f .rows) 0 62 0 (read-each f m H) G (λ j a b. asked j (omega arith))
-      (omega (arith, read-held f m H, rowsSize-text (f .rows)))
+  pub holds-rows : (top : ℕ) → beforeFirst ≤ top → GoodRows top 62 (f .rows) → rowsOk m top (countOf m) ≡ true
+  holds-rows top low G =
+      ap (rowsOk m top) (read-count f m H)
+      ∙ rows-pass m top (f .rows) low (read-guard f m H) (read-start f m H) (read-each f m H) G
+      (omega (arith, read-held f m H, rowsSize-text (f .rows))) (omega (arith, read-held f m H, H .fine .fits))

@@ -1,36 +1,21 @@
--- How long the parts of a front are, and the bytes of rows one after the other. By induction over the rows.
-use Prim.Native.Nat.{ℕ, _+_, _*_}
-use mathlib.Core.Path.{_≡_, refl, sym}
+-- How long the parts of a front are, the numbers of its columns, and rows one after the other. By induction over the rows.
+use Prim.Native.Nat.{ℕ, suc, _+_, _*_, _<_}
+use mathlib.Core.Path.{_≡_, refl, sym, ap, _∙_}
 use native.Mathlib.Omega.{arith}
-use native.Mathlib.Nat.{add-zero, add-assoc}
-use mathlib.Core.List.{List, [], _∷_, _++_, append-assoc}
+use mathlib.Core.List.{List, [], _∷_, _++_, append-assoc, map}
 use mathlib.Core.Bool.{Bool, not}
 use lib.ListN.{length, length-append}
 use Rattle.memory.specs.Numbers.{numberBytes}
+use Rattle.columns.proofs.Columns.{Fits}
 use Rattle.marks.specs.Marks.{wordsBytes}
 use Rattle.marks.proofs.Words.{words-length}
 use Rattle.model.specs.Parts.{Marks, nontrailer, trailer}
 use Rattle.model.specs.Table.{size, total}
-use Rattle.state.specs.Rows.{Row, rowLine, rowBytes, rowsBytes, textOf, textBytes, rowsSize}
+use Rattle.state.specs.Rows.{Row, rowIndex, nameLength, rowStatus, textOf, offsetsFrom, textBytes, rowsSize}
 use Rattle.state.specs.Front.{Front, headBytes, marksBytes}
 use Rattle.state_laws.proofs.FrontHolds.{FineRows}
 
 -- ---- lengths
-
-pub length-rowLine : (index offset name value status : ℕ) → length (rowLine index offset name value status) ≡ 16
-unfolding rowLine numberBytes
-length-rowLine index offset name value status = refl
-
-pub length-rowBytes : (o : ℕ) (r : Row) → length (rowBytes o r) ≡ 16
-unfolding rowBytes
-length-rowBytes o r = length-rowLine (r .index) o (length (r .entry .name)) (length (r .entry .value)) (r .status)
-
-pub length-rowsBytes : (o : ℕ) (rs : List Row) → length (rowsBytes o rs) ≡ 16 * length rs
-unfolding rowsBytes
-length-rowsBytes o [] = refl
-length-rowsBytes o (r ∷ rs) =
-    let p : ℕ = o + length (textOf (r .entry)) in
-    omega (arith, length-append (rowBytes o r) (rowsBytes p rs), length-rowBytes o r, length-rowsBytes p rs)
 
 pub length-headBytes : (f : Front) → length (headBytes f) ≡ 64
 unfolding headBytes numberBytes
@@ -54,12 +39,6 @@ rowsSize-text (r ∷ rs) = omega (arith, length-append (textOf (r .entry)) (text
 
 -- ---- rows after rows
 
-pub rowsBytes-append : (o : ℕ) (xs ys : List Row) → rowsBytes o (xs ++ ys) ≡ rowsBytes o xs ++ rowsBytes (o + length (textBytes xs)) ys
-unfolding rowsBytes textBytes
-rowsBytes-append o [] ys = simp add-zero
-rowsBytes-append o (x ∷ xs) ys =
-    rw (rowsBytes-append (o + length (textOf (x .entry))) xs ys, length-append (textOf (x .entry)) (textBytes xs), add-assoc, append-assoc)
-
 pub textBytes-append : (xs ys : List Row) → textBytes (xs ++ ys) ≡ textBytes xs ++ textBytes ys
 unfolding textBytes
 textBytes-append [] ys = refl
@@ -81,3 +60,58 @@ fine-left (x ∷ xs) ys p = (p .0, fine-left xs ys (p .1))
 pub fine-right : (xs ys : List Row) → FineRows (xs ++ ys) → FineRows ys
 fine-right [] ys p = p
 fine-right (x ∷ xs) ys p = fine-right xs ys (p .1)
+
+-- ---- where the texts of rows start
+
+-- those of the rows alone, without where the last one ends
+unfoldable pub startsFrom : ℕ → List Row → List ℕ
+startsFrom o [] = []
+startsFrom o (r ∷ rs) = o ∷ startsFrom (o + length (textOf (r .entry))) rs
+
+pub length-starts : (o : ℕ) (rs : List Row) → length (startsFrom o rs) ≡ length rs
+unfolding startsFrom
+length-starts o [] = refl
+length-starts o (r ∷ rs) = ap suc (length-starts (o + length (textOf (r .entry))) rs)
+
+pub length-offsets : (o : ℕ) (rs : List Row) → length (offsetsFrom o rs) ≡ length rs + 1
+unfolding offsetsFrom
+length-offsets o [] = refl
+length-offsets o (r ∷ rs) = omega (arith, length-offsets (o + length (textOf (r .entry))) rs)
+
+pub offsets-append : (o : ℕ) (xs ys : List Row) → offsetsFrom o (xs ++ ys) ≡ startsFrom o xs ++ offsetsFrom (o + length (textBytes xs)) ys
+unfolding offsetsFrom startsFrom textBytes
+offsets-append o [] ys = let e : o ≡ o + 0 = omega arith in ap (λ (p : ℕ). offsetsFrom p ys) e
+offsets-append o (x ∷ xs) ys =
+    let w : List ℕ = textOf (x .entry) in
+    let e : o + length w + length (textBytes xs) ≡ o + length (w ++ textBytes xs) = omega (arith, length-append w (textBytes xs)) in
+    ap (λ (l : List ℕ). o ∷ l) (offsets-append (o + length w) xs ys ∙ ap (λ (p : ℕ). startsFrom (o + length w) xs ++ offsetsFrom p ys) e)
+
+pub offsets-shift : (o t : ℕ) (rs : List Row) → offsetsFrom (o + t) rs ≡ map (λ (x : ℕ). x + t) (offsetsFrom o rs)
+unfolding offsetsFrom
+offsets-shift o t [] = refl
+offsets-shift o t (r ∷ rs) =
+    let n : ℕ = length (textOf (r .entry)) in
+    let e : o + t + n ≡ o + n + t = omega arith in
+    ap (λ (l : List ℕ). (o + t) ∷ l) (ap (λ (p : ℕ). offsetsFrom p rs) e ∙ offsets-shift (o + n) t rs)
+
+-- ---- the numbers of the columns fit
+
+pub indexes-fit : (rs : List Row) → FineRows rs → Fits 4 (map rowIndex rs)
+indexes-fit [] F = tt
+indexes-fit (r ∷ rs) F = (F .0 .index, indexes-fit rs (F .1))
+
+pub offsets-fit : (o : ℕ) (rs : List Row) → o + length (textBytes rs) < 65536 → Fits 2 (offsetsFrom o rs)
+unfolding offsetsFrom textBytes
+offsets-fit o [] h = (omega arith, tt)
+offsets-fit o (r ∷ rs) h =
+    let w : List ℕ = textOf (r .entry) in
+    let l = length-append w (textBytes rs) in
+    (omega arith, offsets-fit (o + length w) rs (omega arith))
+
+pub names-fit : (rs : List Row) → FineRows rs → Fits 1 (map nameLength rs)
+names-fit [] F = tt
+names-fit (r ∷ rs) F = (F .0 .name, names-fit rs (F .1))
+
+pub statuses-fit : (rs : List Row) → FineRows rs → Fits 2 (map rowStatus rs)
+statuses-fit [] F = tt
+statuses-fit (r ∷ rs) F = (F .0 .status, statuses-fit rs (F .1))

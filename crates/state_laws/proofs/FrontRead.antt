@@ -4,7 +4,7 @@ use mathlib.Core.Path.{_≡_, ap, subst, _∙_}
 use native.Mathlib.Omega.{arith}
 use native.Mathlib.Nat.{zero-add}
 use mathlib.Core.Bool.{Bool, true, false, not, Bool·not-not}
-use mathlib.Core.List.{List, _∷_, _++_}
+use mathlib.Core.List.{List, _∷_, _++_, map}
 use borrow.Author.Tests.{lt-ltb}
 use lib.Dec.{ltb}
 use lib.ListN.{length, replicate}
@@ -14,20 +14,42 @@ use Rattle.memory.specs.Compare.{zerosAt}
 use Rattle.memory.proofs.Order.{pick-true}
 use Rattle.memory.proofs.Places.{has-left, has-right}
 use Rattle.memory.proofs.Zeros.{has-zeros}
+use Rattle.columns.specs.Columns.{Reads}
+use Rattle.columns.proofs.Columns.{Fits, column-reads}
 use Rattle.marks.specs.Marks.{isSet, wordsBytes}
 use Rattle.marks.proofs.Words.{words-length, words-read}
 use Rattle.model.specs.Parts.{Part, nontrailer, trailer, streams}
-use Rattle.state.specs.Layout.{february, marksPlace, roleOf, editionOf, limitOf, heldOf, countOf, deleteCount}
-use Rattle.state.specs.Rows.{Row, rowsOf, textBytes, rowsSize}
+use Rattle.state.specs.Layout.{
+  february,
+  marksPlace,
+  indexesPlace,
+  offsetsPlace,
+  nameLengthsPlace,
+  statusesPlace,
+  beforeFirst,
+  roleOf,
+  editionOf,
+  limitOf,
+  heldOf,
+  countOf,
+  deleteCount,
+  indexBefore,
+  offsetAt,
+}
+use Rattle.state.specs.Rows.{Row, rowIndex, nameLength, rowStatus, rowsOf, offsetsFrom, textBytes, rowsSize}
 use Rattle.state.specs.Front.{Front, marksOf, headBytes, marksBytes}
 use Rattle.state_laws.proofs.FrontHolds.{FineFront, HoldsFront}
-use Rattle.state_laws.proofs.FrontLengths.{rowsSize-text}
+use Rattle.state_laws.proofs.FrontLengths.{rowsSize-text, indexes-fit, offsets-fit, names-fit, statuses-fit}
 use Rattle.state_laws.proofs.NumberRuns.{number-read, number-next}
-use Rattle.state_laws.proofs.RowsRead.{RowRead, RowsRead, rows-read, rows-are, rows-split}
+use Rattle.state_laws.proofs.RowsRead.{RowRead, RowsRead, ColumnsRead, offsets-first, rows-read, rows-are, rows-end, rows-split}
 
 -- the text of a fine front has room in its part of memory
 pub fine-text : (f : Front) → FineFront f → length (textBytes (f .rows)) + 32 * length (f .rows) ≤ 4096
 fine-text f F = omega (arith, F .fits, rowsSize-text (f .rows))
+
+-- so that every offset of it has two bytes
+pub offsets-fine : (f : Front) → FineFront f → Fits 2 (offsetsFrom 0 (f .rows))
+offsets-fine f F = offsets-fit 0 (f .rows) (omega (arith, fine-text f F))
 
 module _ (f : Front) where
   -- what of the head follows a number of it
@@ -81,8 +103,31 @@ module _ (f : Front) (m : List ℕ) (H : HoldsFront f m) where
 
   -- ---- the rows
 
+  read-indexes : Reads 4 m indexesPlace (beforeFirst ∷ map rowIndex (f .rows))
+  read-indexes = column-reads 4 m indexesPlace (beforeFirst ∷ map rowIndex (f .rows)) (omega arith, indexes-fit (f .rows) (H .fine .rows)) (H .indexes)
+
+  read-columns : ColumnsRead m 0 0 (f .rows)
+  read-columns = record {
+    indexes = read-indexes .1;
+    offsets = column-reads 2 m offsetsPlace (offsetsFrom 0 (f .rows)) (offsets-fine f (H .fine)) (H .offsets);
+    names = column-reads 1 m nameLengthsPlace (map nameLength (f .rows)) (names-fit (f .rows) (H .fine .rows)) (H .names);
+    statuses = column-reads 2 m statusesPlace (map rowStatus (f .rows)) (statuses-fit (f .rows) (H .fine .rows)) (H .statuses);
+  }
+
+  -- what stands in front of the first index, where the text starts, and where it ends
+  pub read-guard : indexBefore m 0 ≡ beforeFirst
+  read-guard = read-indexes .0
+
+  pub read-start : offsetAt m 0 ≡ 0
+  read-start = offsets-first m offsetsPlace 0 (f .rows) (read-columns .offsets)
+
   pub read-each : RowsRead m 0 0 (f .rows)
-  read-each = rows-read m (f .rows) 0 0 (H .fine .rows) (omega (arith, fine-text f (H .fine))) (H .rows) (H .text)
+  read-each = rows-read m (f .rows) 0 0 read-columns (H .text)
+
+  pub read-end : offsetAt m (countOf m) ≡ length (textBytes (f .rows))
+  read-end =
+      ap (offsetAt m) read-count
+      ∙ (rw (zero-add (length (f .rows)), zero-add (length (textBytes (f .rows)))) at (rows-end m (f .rows) 0 0 read-start read-each))
 
   pub read-rows : rowsOf m 0 (countOf m) ≡ f .rows
   read-rows = ap (rowsOf m 0) read-count ∙ rows-are m (f .rows) 0 0 read-each

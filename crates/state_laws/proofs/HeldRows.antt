@@ -74,7 +74,7 @@ good-rows-fine : (low : ℕ) (rs : List Row) → GoodRows largest low rs → Eac
 good-rows-fine low [] good few = tt
 good-rows-fine low (r ∷ rs) good few =
     let g = good .0 in (
-      record { index = omega (arith, g .below); name = omega (arith, g .name); value = omega (arith, g .value); status = few .0 },
+      record { index = omega (arith, g .below); name = omega (arith, g .name); status = few .0 },
       good-rows-fine (suc (r .index)) rs (good .1) (few .1),
     )
 

@@ -21,9 +21,9 @@ pub mod HeldRows
 pub mod DecoderHolds
 pub mod DecoderForms
 pub mod DecoderLaws
--- the encoder: its references, rows as entries, what holds its state, the test, and overlays
-pub mod References
-pub mod ReferenceChanges
+-- the encoder: what stands behind the front, its horizons, rows as entries, what holds its state, the test, and overlays
+pub mod Behind
+pub mod Horizons
 pub mod SentRows
 pub mod EncoderHolds
 pub mod EncoderForms

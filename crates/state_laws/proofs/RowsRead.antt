@@ -1,19 +1,31 @@
--- Rows that are read from memory are the rows whose bytes stand there, and the other way round. Field by field, then by induction over the rows.
-use Prim.Native.Nat.{ℕ, suc, _+_, _≤_, _<_}
-use mathlib.Core.Path.{_≡_, refl, sym, ap, _∙_}
+-- Rows that are read from memory are the rows whose columns and text stand there, and the other way round. Number by number, then by induction over
+-- the rows.
+use Prim.Native.Nat.{ℕ, suc, _+_, _*_, _≤_}
+use mathlib.Core.Path.{_≡_, refl, sym, ap, subst, _∙_}
 use native.Mathlib.Omega.{arith}
 use native.Mathlib.Nat.{add-zero}
-use mathlib.Core.List.{List, [], _∷_, _++_}
+use mathlib.Core.List.{List, [], _∷_, _++_, map}
 use lib.ListN.{length, length-append}
 use Rattle.memory.specs.Bytes.{part, Has, Small}
-use Rattle.memory.specs.Numbers.{number, numberBytes}
-use Rattle.memory.proofs.Numbers.{number-back, number-bound}
+use Rattle.memory.specs.Numbers.{number}
+use Rattle.memory.proofs.Numbers.{number-bound}
 use Rattle.memory.proofs.Places.{has-left, has-right, has-join, has-part, has-of}
-use Rattle.state.specs.Layout.{rowPlace, textPlace, indexAt, offsetAt, nameLengthAt, valueLengthAt, statusAt, restAt}
-use Rattle.state.specs.Rows.{Row, rowAt, rowsOf, rowLine, rowBytes, rowsBytes, textOf, textBytes}
+use Rattle.columns.specs.Columns.{Reads}
+use Rattle.state.specs.Layout.{
+  indexPlace,
+  offsetPlace,
+  nameLengthPlace,
+  statusPlace,
+  textPlace,
+  indexAt,
+  offsetAt,
+  nameLengthAt,
+  valueLengthAt,
+  statusAt,
+}
+use Rattle.state.specs.Rows.{Row, rowIndex, nameLength, rowStatus, rowAt, rowsOf, textOf, offsetsFrom, textBytes}
 use Rattle.state_laws.proofs.FrontHolds.{FineRow, FineRows}
-use Rattle.state_laws.proofs.FrontLengths.{length-rowBytes, length-text}
-use Rattle.state_laws.proofs.NumberRuns.{number-bytes, number-read, number-next, number-join}
+use Rattle.state_laws.proofs.FrontLengths.{length-text}
 
 -- ---- a row
 
@@ -22,106 +34,43 @@ pub record RowRead (m : List ℕ) (i o : ℕ) (r : Row) : Type 0 where
   pub row : rowAt m i ≡ r
   pub index : indexAt m i ≡ r .index
   pub offset : offsetAt m i ≡ o
+  pub next : offsetAt m (i + 1) ≡ o + length (textOf (r .entry))
   pub name : nameLengthAt m i ≡ length (r .entry .name)
   pub value : valueLengthAt m i ≡ length (r .entry .value)
   pub status : statusAt m i ≡ r .status
-  pub rest : restAt m i ≡ 0
 
 abbrev pub RowsRead : List ℕ → ℕ → ℕ → List Row → Type 0
 RowsRead m i o [] = Unit {0}
 RowsRead m i o (r ∷ rs) = RowRead m i o r × RowsRead m (i + 1) (o + length (textOf (r .entry))) rs
 
--- the fields of a line
-record Line (m : List ℕ) (at index offset name value status : ℕ) : Type 0 where
-  first : number 4 m at ≡ index
-  second : number 2 m (at + 4) ≡ offset
-  third : number 2 m (at + 6) ≡ name
-  fourth : number 2 m (at + 8) ≡ value
-  fifth : number 2 m (at + 10) ≡ status
-  last : number 4 m (at + 12) ≡ 0
-
-module _ (m : List ℕ) (at index offset name value status : ℕ) where
-  -- what of the line follows a field
-  abbrev afterValue : List ℕ
-  afterValue = numberBytes 2 status ++ numberBytes 4 0
-
-  abbrev afterName : List ℕ
-  afterName = numberBytes 2 value ++ afterValue
-
-  abbrev afterOffset : List ℕ
-  afterOffset = numberBytes 2 name ++ afterName
-
-  abbrev afterIndex : List ℕ
-  afterIndex = numberBytes 2 offset ++ afterOffset
-
-  line-read : index < 4294967296 → offset < 65536 → name < 65536 → value < 65536 → status < 65536
-      → Has m at (rowLine index offset name value status) → Line m at index offset name value status
-  unfolding rowLine
-  line-read a b c d e h =
-      let h0 : Has m (at + 0) (numberBytes 4 index ++ afterIndex) = rw (add-zero at) h in
-      let h4 = number-next m at 0 4 index afterIndex h0 in
-      let h6 = number-next m at 4 2 offset afterOffset h4 in
-      let h8 = number-next m at 6 2 name afterName h6 in
-      let h10 = number-next m at 8 2 value afterValue h8 in
-      let h12 = number-next m at 10 2 status (numberBytes 4 0) h10 in
-      record {
-        first = rw (add-zero at) at (number-read m at 0 4 index afterIndex a h0);
-        second = number-read m at 4 2 offset afterOffset b h4;
-        third = number-read m at 6 2 name afterName c h6;
-        fourth = number-read m at 8 2 value afterValue d h8;
-        fifth = number-read m at 10 2 status (numberBytes 4 0) e h10;
-        last = number-back 4 m (at + 12) 0 (omega arith) h12;
-      }
-
-  line-has : Small m → at + 16 ≤ length m → Line m at index offset name value status → Has m at (rowLine index offset name value status)
-  unfolding rowLine
-  line-has small b L =
-      let zeroth : number 4 m (at + 0) ≡ index = rw (add-zero at) (L .first) in
-      rw (add-zero at) at
-      (number-join m at 0 4 index afterIndex (number-bytes m (at + 0) 4 index small (omega arith) zeroth)
-      (number-join m at 4 2 offset afterOffset (number-bytes m (at + 4) 2 offset small (omega arith) (L .second))
-      (number-join m at 6 2 name afterName (number-bytes m (at + 6) 2 name small (omega arith) (L .third))
-      (number-join m at 8 2 value afterValue (number-bytes m (at + 8) 2 value small (omega arith) (L .fourth))
-      (number-join m at 10 2 status (numberBytes 4 0) (number-bytes m (at + 10) 2 status small (omega arith) (L .fifth))
-      (number-bytes m (at + 12) 4 0 small (omega arith) (L .last)))))))
-
 module _ (m : List ℕ) (i o : ℕ) (r : Row) where
-  pub row-read : FineRow r → o < 65536 → Has m (rowPlace i) (rowBytes o r) → Has m (textPlace + o) (textOf (r .entry)) → RowRead m i o r
-  unfolding rowBytes
-  row-read F b h t =
+  row-read : indexAt m i ≡ r .index → offsetAt m i ≡ o → offsetAt m (i + 1) ≡ o + length (textOf (r .entry))
+      → nameLengthAt m i ≡ length (r .entry .name) → statusAt m i ≡ r .status → Has m (textPlace + o) (textOf (r .entry)) → RowRead m i o r
+  row-read index offset next name status t =
       let n : List ℕ = r .entry .name in
       let v : List ℕ = r .entry .value in
-      let L = line-read m (rowPlace i) (r .index) o (length n) (length v) (r .status) (F .index) b (F .name) (F .value) (F .status) h in
       let at-name : part m (textPlace + o) (length n) ≡ n = has-part m (textPlace + o) n (has-left m (textPlace + o) n v t) in
       let at-value : part m (textPlace + o + length n) (length v) ≡ v =
       has-part m (textPlace + o + length n) v (has-right m (textPlace + o) n v t) in
-      let ro : offsetAt m i ≡ o = L .second in
-      let rn : nameLengthAt m i ≡ length n = L .third in
-      let rv : valueLengthAt m i ≡ length v = L .fourth in
+      let value : valueLengthAt m i ≡ length v = omega (arith, length-text r) in
       record {
         row = λ k. record {
-          index = L .first k;
+          index = index k;
           entry = record {
-            name = ((λ j. part m (textPlace + ro j) (rn j)) ∙ at-name) k;
-            value = ((λ j. part m (textPlace + ro j + rn j) (rv j)) ∙ at-value) k;
+            name = ((λ j. part m (textPlace + offset j) (name j)) ∙ at-name) k;
+            value = ((λ j. part m (textPlace + offset j + name j) (value j)) ∙ at-value) k;
           };
-          status = L .fifth k;
+          status = status k;
         };
-        index = L .first;
-        offset = ro;
-        name = rn;
-        value = rv;
-        status = L .fifth;
-        rest = L .last;
+        index = index;
+        offset = offset;
+        next = next;
+        name = name;
+        value = value;
+        status = status;
       }
 
-  pub row-has : Small m → rowPlace i + 16 ≤ length m → RowRead m i o r → Has m (rowPlace i) (rowBytes o r)
-  unfolding rowBytes
-  row-has small b R =
-      line-has m (rowPlace i) (r .index) o (length (r .entry .name)) (length (r .entry .value)) (r .status) small b
-      (record { first = R .index; second = R .offset; third = R .name; fourth = R .value; fifth = R .status; last = R .rest })
-
-  pub row-text : textPlace + o + length (textOf (r .entry)) ≤ length m → RowRead m i o r → Has m (textPlace + o) (textOf (r .entry))
+  row-text : textPlace + o + length (textOf (r .entry)) ≤ length m → RowRead m i o r → Has m (textPlace + o) (textOf (r .entry))
   row-text b R =
       let n : List ℕ = r .entry .name in
       let v : List ℕ = r .entry .value in
@@ -136,41 +85,81 @@ module _ (m : List ℕ) (i o : ℕ) (r : Row) where
       (has-of m (textPlace + o) (length n) n (omega arith) at-name)
       (has-of m (textPlace + o + length n) (length v) v (omega arith) at-value)
 
-  pub row-fine : Small m → RowRead m i o r → FineRow r
+  row-fine : Small m → RowRead m i o r → FineRow r
   row-fine small R = record {
-    index = omega (arith, R .index, number-bound 4 m (rowPlace i) small);
-    name = omega (arith, R .name, number-bound 2 m (rowPlace i + 6) small);
-    value = omega (arith, R .value, number-bound 2 m (rowPlace i + 8) small);
-    status = omega (arith, R .status, number-bound 2 m (rowPlace i + 10) small);
+    index = omega (arith, R .index, number-bound 4 m (indexPlace i) small);
+    name = omega (arith, R .name, number-bound 1 m (nameLengthPlace i) small);
+    status = omega (arith, R .status, number-bound 2 m (statusPlace i) small);
   }
 
 -- ---- rows
 
+-- the columns of rows, from row i on
+pub record ColumnsRead (m : List ℕ) (i o : ℕ) (rs : List Row) : Type 0 where
+  pub indexes : Reads 4 m (indexPlace i) (map rowIndex rs)
+  pub offsets : Reads 2 m (offsetPlace i) (offsetsFrom o rs)
+  pub names : Reads 1 m (nameLengthPlace i) (map nameLength rs)
+  pub statuses : Reads 2 m (statusPlace i) (map rowStatus rs)
+
 module _ (m : List ℕ) where
-  pub rows-read : (rs : List Row) (i o : ℕ) → FineRows rs → o + length (textBytes rs) ≤ 4096
-      → Has m (rowPlace i) (rowsBytes o rs) → Has m (textPlace + o) (textBytes rs) → RowsRead m i o rs
-  unfolding rowsBytes textBytes
-  rows-read [] i o F b h t = tt
-  rows-read (r ∷ rs) i o F b h t =
+  pub offsets-first : (at o : ℕ) (rs : List Row) → Reads 2 m at (offsetsFrom o rs) → number 2 m at ≡ o
+  unfolding offsetsFrom
+  offsets-first at o [] h = h .0
+  offsets-first at o (r ∷ rs) h = h .0
+
+  -- the columns without the first row
+  columns-rest : (i o : ℕ) (r : Row) (rs : List Row) → ColumnsRead m i o (r ∷ rs) → ColumnsRead m (i + 1) (o + length (textOf (r .entry))) rs
+  unfolding offsetsFrom
+  columns-rest i o r rs C =
+      let a : indexPlace i + 4 ≡ indexPlace (i + 1) = omega arith in
+      let b : offsetPlace i + 2 ≡ offsetPlace (i + 1) = omega arith in
+      let c : nameLengthPlace i + 1 ≡ nameLengthPlace (i + 1) = omega arith in
+      let d : statusPlace i + 2 ≡ statusPlace (i + 1) = omega arith in
+      record {
+        indexes = subst (λ (at : ℕ). Reads 4 m at (map rowIndex rs)) a (C .indexes .1);
+        offsets = subst (λ (at : ℕ). Reads 2 m at (offsetsFrom (o + length (textOf (r .entry))) rs)) b (C .offsets .1);
+        names = subst (λ (at : ℕ). Reads 1 m at (map nameLength rs)) c (C .names .1);
+        statuses = subst (λ (at : ℕ). Reads 2 m at (map rowStatus rs)) d (C .statuses .1);
+      }
+
+  pub rows-read : (rs : List Row) (i o : ℕ) → ColumnsRead m i o rs → Has m (textPlace + o) (textBytes rs) → RowsRead m i o rs
+  unfolding offsetsFrom textBytes
+  rows-read [] i o C t = tt
+  rows-read (r ∷ rs) i o C t =
       let w : List ℕ = textOf (r .entry) in
       let p : ℕ = o + length w in
-      let l = length-append w (textBytes rs) in
-      let d : rowPlace i + length (rowBytes o r) ≡ rowPlace (i + 1) = omega (arith, length-rowBytes o r) in
+      let D = columns-rest i o r rs C in
       let e : textPlace + o + length w ≡ textPlace + p = omega arith in (
-        row-read m i o r (F .0) (omega arith) (has-left m (rowPlace i) (rowBytes o r) (rowsBytes p rs) h)
+        row-read m i o r (C .indexes .0) (C .offsets .0) (offsets-first (offsetPlace (i + 1)) p rs (D .offsets)) (C .names .0) (C .statuses .0)
             (has-left m (textPlace + o) w (textBytes rs) t),
-        rows-read rs (i + 1) p (F .1) (omega arith) (rw d at (has-right m (rowPlace i) (rowBytes o r) (rowsBytes p rs) h))
-            (rw e at (has-right m (textPlace + o) w (textBytes rs) t)),
+        rows-read rs (i + 1) p D (rw e at (has-right m (textPlace + o) w (textBytes rs) t)),
       )
 
-  pub rows-has : (rs : List Row) (i o : ℕ) → Small m → rowPlace (i + length rs) ≤ length m → RowsRead m i o rs → Has m (rowPlace i) (rowsBytes o rs)
-  unfolding rowsBytes
-  rows-has [] i o small b R = tt
-  rows-has (r ∷ rs) i o small b R =
+  -- a column of numbers that each row has, w bytes each
+  rows-column : (w base : ℕ) (f : Row → ℕ) → ((i o : ℕ) (r : Row) → RowRead m i o r → number w m (base + w * i) ≡ f r)
+      → (rs : List Row) (i o : ℕ) → RowsRead m i o rs → Reads w m (base + w * i) (map f rs)
+  rows-column w base f each [] i o R = tt
+  rows-column w base f each (r ∷ rs) i o R =
+      let e : base + w * (i + 1) ≡ base + w * i + w = omega arith in (
+        each i o r (R .0),
+        subst (λ (at : ℕ). Reads w m at (map f rs)) e (rows-column w base f each rs (i + 1) (o + length (textOf (r .entry))) (R .1)),
+      )
+
+  rows-offsets : (rs : List Row) (i o : ℕ) → offsetAt m i ≡ o → RowsRead m i o rs → Reads 2 m (offsetPlace i) (offsetsFrom o rs)
+  unfolding offsetsFrom
+  rows-offsets [] i o h R = (h, tt)
+  rows-offsets (r ∷ rs) i o h R =
       let p : ℕ = o + length (textOf (r .entry)) in
-      let d : rowPlace (i + 1) ≡ rowPlace i + length (rowBytes o r) = omega (arith, length-rowBytes o r) in
-      has-join m (rowPlace i) (rowBytes o r) (rowsBytes p rs) (row-has m i o r small (omega arith) (R .0))
-      (rw d at (rows-has rs (i + 1) p small (omega arith) (R .1)))
+      let e : offsetPlace (i + 1) ≡ offsetPlace i + 2 = omega arith in
+      (h, subst (λ (at : ℕ). Reads 2 m at (offsetsFrom p rs)) e (rows-offsets rs (i + 1) p (R .0 .next) (R .1)))
+
+  pub rows-columns : (rs : List Row) → offsetAt m 0 ≡ 0 → RowsRead m 0 0 rs → ColumnsRead m 0 0 rs
+  rows-columns rs h R = record {
+    indexes = rows-column 4 1092 rowIndex (λ i o r S. S .index) rs 0 0 R;
+    offsets = rows-offsets rs 0 0 h R;
+    names = rows-column 1 1862 nameLength (λ i o r S. let e : 1862 + 1 * i ≡ nameLengthPlace i = omega arith in ap (number 1 m) e ∙ S .name) rs 0 0 R;
+    statuses = rows-column 2 1990 rowStatus (λ i o r S. S .status) rs 0 0 R;
+  }
 
   pub rows-text : (rs : List Row) (i o : ℕ) → textPlace + o + length (textBytes rs) ≤ length m → RowsRead m i o rs → Has m (textPlace + o) (textBytes rs)
   unfolding textBytes
@@ -190,6 +179,15 @@ module _ (m : List ℕ) where
   unfolding rowsOf
   rows-are [] i o R = refl
   rows-are (r ∷ rs) i o R = λ k. R .0 .row k ∷ rows-are rs (i + 1) (o + length (textOf (r .entry))) (R .1) k
+
+  -- where the text of rows ends
+  pub rows-end : (rs : List Row) (i o : ℕ) → offsetAt m i ≡ o → RowsRead m i o rs → offsetAt m (i + length rs) ≡ o + length (textBytes rs)
+  unfolding textBytes
+  rows-end [] i o h R = let e : i + 0 ≡ i = omega arith in ap (offsetAt m) e ∙ omega arith
+  rows-end (r ∷ rs) i o h R =
+      let w : List ℕ = textOf (r .entry) in
+      let e : i + suc (length rs) ≡ i + 1 + length rs = omega arith in
+      ap (offsetAt m) e ∙ rows-end rs (i + 1) (o + length w) (R .0 .next) (R .1) ∙ omega (arith, length-append w (textBytes rs))
 
   -- the row at a split
   pub rows-split : (xs : List Row) (r : Row) (ys : List Row) (i o : ℕ) → RowsRead m i o (xs ++ r ∷ ys)

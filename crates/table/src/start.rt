@@ -19,6 +19,7 @@ use state::head::put_limit;
 use state::layout::FEBRUARY;
 use state::layout::NONTRAILER_MARKS;
 use state::layout::TRAILER_MARKS;
+use state::row::put_no_rows;
 
 // The head of an empty table.
 fn put_head(m: &mut [u8], role: u8, limit: u16)
@@ -41,4 +42,5 @@ pub fn start(m: &mut [u8], role: u8, limit: u16)
     put_head(m, role, limit);
     set_all(m, NONTRAILER_MARKS);
     set_all(m, TRAILER_MARKS);
+    put_no_rows(m);
 }

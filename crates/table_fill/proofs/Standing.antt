@@ -12,7 +12,7 @@ use Rattle.integers.specs.Integer.{largest}
 use Rattle.model_laws.proofs.Marks.{and-both}
 use Rattle.state.specs.Layout.{frontLength, decoderLength, decoderRole, limitOf, heldOf, countOf, deleteCount}
 use Rattle.state.specs.DecoderState.{decoderOf}
-use Rattle.state.specs.Forms.{headOk, rowsOk, statusOk, formsDecoder}
+use Rattle.state.specs.Forms.{headOk, rowsOk, formsDecoder}
 use Rattle.state_laws.proofs.RowsTest.{rows-within}
 use Rattle.state_laws.proofs.FrontForms.{head-told}
 use Rattle.table_laws.specs.DecoderChanges.{DecoderChanges}
@@ -36,12 +36,12 @@ unfolding formsDecoder
 within m forms =
     let p = and-both (headOk decoderRole decoderLength m) _ forms in
     let q = and-both (leb (deleteCount m) 256) _ (p .1) in
-    let r = and-both (rowsOk (statusOk m) m largest (countOf m) 0 62 0) _ (q .1) in
+    let r = and-both (rowsOk m largest (countOf m)) _ (q .1) in
     let h = head-told decoderRole decoderLength m (p .0) in
     record {
       long = omega (arith, h .long);
       limit = h .limit;
       held = h .held;
       count = h .count;
-      heads = omega (arith, rows-within (statusOk m) m largest (countOf m) 0 62 0 (r .0));
+      heads = rows-within m largest (countOf m) (r .0);
     }

@@ -1,5 +1,5 @@
 // Fills a table with 128 entries of size 32, empties it in another order and fills it again; then the same with text, up to the limit. After each
-// step the head, the rows and the text in use are printed. `stdout` holds what must be printed; tests/table_fill makes it from docs/STATE.md.
+// step the head, the columns and the text in use are printed. `stdout` holds what must be printed; tests/table_fill makes it from docs/STATE.md.
 ghost use Prim.Native.Nat.{ℕ, _≤_};
 ghost use lib.ListN.{length};
 ghost use Rattle.state.specs.Layout.{frontLength};
@@ -7,17 +7,23 @@ use integers::number::TableIndex;
 use show::bytes;
 use show::number;
 use show::words;
-use state::decoder::forms_decoder;
 use state::head::count_of;
 use state::head::held_of;
 use state::layout::DECODER;
 use state::layout::DECODER_LENGTH;
 use state::layout::ENTRY_SIZE;
+use state::layout::INDEXES;
 use state::layout::MOST_HELD;
+use state::layout::NAME_LENGTHS;
 use state::layout::NONTRAILER_MARKS;
-use state::layout::ROW_LENGTH;
+use state::layout::OFFSETS;
+use state::layout::STATUSES;
 use state::layout::TEXT;
-use state::layout::row_place;
+use state::row::INDEX;
+use state::row::NAME_LENGTH;
+use state::row::OFFSET;
+use state::row::STATUS;
+use state_test::decoder::forms_decoder;
 use table::remove::remove;
 use table::start::start;
 use table_insert::insert::insert;
@@ -26,7 +32,7 @@ use table_search::find::Found;
 use table_search::find::find;
 
 // How many indexes are used, from the first on.
-const INDEXES: u32 = 128;
+const USED: u32 = 128;
 
 fn main() {
     let mut memory = io::large_buffer();
@@ -45,23 +51,23 @@ fn run(m: &mut [u8]) {
 
 // 128 entries of size 32 put in, taken out in another order, and put in again.
 fn sizes_of_32(m: &mut [u8]) {
-    fill(m, 37, INDEXES, 0);
+    fill(m, 37, USED, 0);
     dump(m);
     empty(m, 53, 77);
     dump(m);
-    empty(m, 53, INDEXES);
+    empty(m, 53, USED);
     dump(m);
-    fill(m, 91, INDEXES, 0);
+    fill(m, 91, USED, 0);
     dump(m);
 }
 
 // The same with text, up to the limit.
 fn with_text(m: &mut [u8]) {
-    empty(m, 5, INDEXES);
-    fill(m, 59, INDEXES, 1);
+    empty(m, 5, USED);
+    fill(m, 59, USED, 1);
     dump(m);
     empty(m, 29, 60);
-    fill(m, 3, INDEXES, 2);
+    fill(m, 3, USED, 2);
     dump(m);
 }
 
@@ -79,7 +85,7 @@ fn fill(m: &mut [u8], step: u32, n: u32, text: u32) {
             &source[..name],
             &source[..value],
         );
-        k = (k + step % INDEXES) % INDEXES;
+        k = (k + step % USED) % USED;
         i += 1;
     }
 }
@@ -90,7 +96,7 @@ fn empty(m: &mut [u8], step: u32, n: u32) {
     let mut i: u32 = 0;
     while i < n {
         take(m, TableIndex::new(TableIndex::FIRST + k));
-        k = (k + step % INDEXES) % INDEXES;
+        k = (k + step % USED) % USED;
         i += 1;
     }
 }
@@ -131,7 +137,7 @@ fn take(m: &mut [u8], index: TableIndex)
     remove(m, place);
 }
 
-// The head, the rows in use and the text in use.
+// The head, the columns in use and the text in use.
 fn dump(m: &[u8]) {
     if !forms_decoder(m) {
         words(b"no state\n");
@@ -139,21 +145,22 @@ fn dump(m: &[u8]) {
     }
     line_of(b"head ", &m[..NONTRAILER_MARKS]);
     let count = count_of(m) as usize;
-    rows(m, count);
+    columns(m, count);
     let end = TEXT + (held_of(m) as usize) - ENTRY_SIZE * count;
     line_of(b"text ", &m[TEXT..end]);
 }
 
-// The first `count` rows.
-fn rows(m: &[u8], count: usize)
+// The columns of `count` rows.
+fn columns(m: &[u8], count: usize)
     requires { ⌜ (count ≤ 128) × (frontLength ≤ length (now m)) ⌝ }
 {
-    let mut i: usize = 0;
-    while i < count {
-        let at = row_place(i);
-        line_of(b"row ", &m[at..at + ROW_LENGTH]);
-        i += 1;
-    }
+    line_of(b"indexes ", &m[INDEXES - INDEX..INDEXES + INDEX * count]);
+    line_of(b"offsets ", &m[OFFSETS..OFFSETS + OFFSET * (count + 1)]);
+    line_of(
+        b"names ",
+        &m[NAME_LENGTHS..NAME_LENGTHS + NAME_LENGTH * count],
+    );
+    line_of(b"statuses ", &m[STATUSES..STATUSES + STATUS * count]);
 }
 
 // A line: a label and an index.

@@ -3,26 +3,21 @@ ghost use mathlib.Core.Path.{_≡_};
 ghost use Prim.Native.Nat.{ℕ, _+_, _≤_, _<_};
 ghost use lib.ListN.{length};
 ghost use Rattle.wire.specs.Text.{InString, stringLength, stringBytes};
-ghost use Rattle.state.specs.Layout.{frontLength, textPlace, nameLengthAt};
-ghost use Rattle.state.specs.Rows.{rowLine, nameAt};
-ghost use Rattle.table_rows.specs.Rows.{startOf};
-ghost use Rattle.table.specs.Changes.{Opening, opened, textOpened, rowOpened, inserted, NamedHere};
+ghost use Rattle.state.specs.Layout.{frontLength, textPlace, offsetAt, nameLengthAt};
+ghost use Rattle.state.specs.Rows.{nameAt};
+ghost use Rattle.table.specs.Changes.{Opening, opened, textOpened, inserted, NamedHere};
 use copying::copy::copy;
 use integers::number::TableIndex;
 use memory::copy::move_down;
 use memory::copy::move_up;
 use state::head::count_of;
-use state::head::held_of;
 use state::layout::ENTRY_SIZE;
-use state::layout::ROW_LENGTH;
 use state::layout::TEXT;
-use state::layout::row_place;
 use state::row::name_length_at;
-use state::row::put_row;
+use state::row::offset_at;
 use state::row::text_at;
-use table_rows::lay;
+use table_rows::open_row;
 use table_rows::record_insert;
-use table_rows::text_start;
 use wire::text::StringPlace;
 
 // Moves the text behind `offset` up by `text` bytes; `left` bytes stand there.
@@ -33,50 +28,21 @@ fn open_text(m: &mut [u8], offset: usize, text: usize, left: usize)
     move_up(m, TEXT + (offset + text), TEXT + offset, left);
 }
 
-// Moves the rows from `place` on up by one and writes the new row.
-fn open_row(
-    m: &mut [u8],
-    place: usize,
-    count: usize,
-    index: TableIndex,
-    offset: u16,
-    name: u16,
-    value: u16,
-)
-    requires { ⌜ (place ≤ count) × (count < 128) × (frontLength ≤ length (now m)) ⌝ }
-    ensures { λ _. ⌜ now (m .exit) ≡ rowOpened (now (m .entry)) place count (rowLine (index .value) offset name value 0) ⌝ }
-{
-    move_up(
-        m,
-        row_place(place + 1),
-        row_place(place),
-        ROW_LENGTH * (count - place),
-    );
-    put_row(m, place, index, offset, name, value);
-}
-
 // Puts a row for an entry with these lengths in, and answers the place of its text, which is still to come.
 pub fn open(m: &mut [u8], place: usize, index: TableIndex, name: usize, value: usize) -> usize
     requires { ⌜ Opening (now m) place name value ⌝ }
-    ensures { λ r. ⌜ r ≡ textPlace + startOf (now (m .entry)) place ⌝ }
+    ensures { λ r. ⌜ r ≡ textPlace + offsetAt (now (m .entry)) place ⌝ }
     ensures { λ _. ⌜ now (m .exit) ≡ opened (now (m .entry)) place (index .value) name value ⌝ }
 {
     let count = count_of(m) as usize;
-    let held = held_of(m) as usize;
-    let offset = text_start(m, place);
-    open_text(m, offset, name + value, held - ENTRY_SIZE * count - offset);
-    open_row(
-        m,
-        place,
-        count,
-        index,
-        offset as u16,
-        name as u16,
-        value as u16,
-    );
-    lay(m, place + 1, count + 1, offset + (name + value));
-    record_insert(m, (name + value + ENTRY_SIZE) as u16);
-    TEXT + offset
+    let offset = offset_at(m, place);
+    let start = offset as usize;
+    let left = (offset_at(m, count) as usize) - start;
+    let text = name + value;
+    record_insert(m, (text + ENTRY_SIZE) as u16);
+    open_row(m, place, count, index, offset, name as u8, text as u32);
+    open_text(m, start, text, left);
+    TEXT + start
 }
 
 // Name and value from slices.

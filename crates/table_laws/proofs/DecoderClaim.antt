@@ -46,9 +46,9 @@ module _ (m : List ℕ) (D : Decoder) (H : HoldsDecoder D m) where
     live = λ x p e z. not-deleted D m H x p (found-at D m H x p e) z;
     deleted = λ x p k e s. let F = found-at D m H x p e in (delete-found D m H x p F k s, delete-good D m H x p F k s);
     kept = λ k h. kept-row D m H k h;
-    opening = λ x p name value e room few. opening-decoder D m H x p (missing-at D m H x p e) name value room few;
+    opening = λ x p name value e room few short. opening-decoder D m H x p (missing-at D m H x p e) name value room few short;
     named = λ x p y row e d. named-decoder D m H x p (missing-at D m H x p e) row (found-below D m H y row (found-at D m H y row d));
-    insert = λ x p name value e fine room few. insert-decoder D m H x p (missing-at D m H x p e) name value fine room few;
+    insert = λ x p name value e fine room few short. insert-decoder D m H x p (missing-at D m H x p e) name value fine room few short;
     room = λ x p e z. omega (arith, deletes-are D m H, deletes-few D m H x p (found-at D m H x p e) z);
     keep = λ d p e z nontrailer trailer. keep-decoder D m H d p (found-at D m H (d .index) p e) z;
     removing = λ x p e. removing-decoder D m H x p (found-at D m H x p e);

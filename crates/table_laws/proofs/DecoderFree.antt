@@ -25,8 +25,8 @@ use Rattle.state_laws.proofs.DecoderHolds.{HoldsDecoder}
 use Rattle.table.specs.Changes.{Removing, removed}
 use Rattle.deletes.specs.Deletes.{renumbered, Dropping, dropped}
 use Rattle.table_laws.proofs.Fronts.{over-front}
-use Rattle.table_laws.proofs.FrontRows.{lowered}
-use Rattle.table_laws.proofs.FrontFits.{length-lowered, text-lowered, remove-fits, deletes-fit, renumber-fits}
+use Rattle.table_laws.proofs.FrontRows.{lowered, alike-lowered, alike-length, alike-text}
+use Rattle.table_laws.proofs.FrontFits.{remove-fits, deletes-fit, renumber-fits}
 use Rattle.table_laws.proofs.FrontStores.{deletes-front}
 use Rattle.table_laws.proofs.FrontStatus.{renumber-front}
 use Rattle.table_laws.proofs.FrontRemove.{removing-front, remove-front}
@@ -153,15 +153,15 @@ module _ (D : Decoder) (m : List ℕ) (H : HoldsDecoder D m) (x p : ℕ) (F : Fo
     n2-holds = deletes-hold g n1 n1-holds c few
 
     same-text : length (textBytes (map (lowered (k + 1)) (xs ++ ys))) ≡ length (textBytes (xs ++ ys))
-    same-text = ap length (text-lowered (k + 1) (xs ++ ys))
+    same-text = ap length (alike-text (map (lowered (k + 1)) (xs ++ ys)) (xs ++ ys) (alike-lowered (k + 1) (xs ++ ys)))
 
-    lowered-front : renumbered (k + 1) (countOf n) n2 0 ≡ overlay (overlayFront g3 m) (deletePlace k) (deletesBytes after)
+    lowered-front : renumbered (k + 1) (countOf n) n2 ≡ overlay (overlayFront g3 m) (deletePlace k) (deletesBytes after)
     lowered-front =
         let e : countOf n ≡ countOf n2 = read-count g n n-holds ∙ sym (read-count g2 n2 n2-holds) in
-        let l = length-lowered (k + 1) (xs ++ ys) in
-        ap (λ (q : ℕ). renumbered (k + 1) q n2 0) e
+        let l = alike-length (map (lowered (k + 1)) (xs ++ ys)) (xs ++ ys) (alike-lowered (k + 1) (xs ++ ys)) in
+        ap (λ (q : ℕ). renumbered (k + 1) q n2) e
         ∙ renumber-front g2 n2 n2-holds (k + 1)
-        ∙ ap (overlayFront g3) (deletes-front g n1 n1-holds c)
+        ∙ ap (overlayFront g3) (deletes-front g n1 n1-holds c few)
         ∙ over-front g2 g3 n1 g3-fits l same-text
         ∙ front-beyond g3 n (deletePlace k) (deletesBytes after) (omega arith) g3-fits
         ∙ ap (λ (t : List ℕ). overlay t (deletePlace k) (deletesBytes after)) (ap (overlayFront g3) n-is ∙ over-front g g3 m g3-fits l same-text)
@@ -196,7 +196,7 @@ module _ (D : Decoder) (m : List ℕ) (H : HoldsDecoder D m) (x p : ℕ) (F : Fo
         has-left m deletesPlace (deletesBytes before) (deletesBytes (G .entry ∷ after))
         (subst (Has m deletesPlace) (ap deletesBytes (G .is) ∙ bytes-append before (G .entry ∷ after)) (H .deletes)) in
         ap (λ (q : ℕ). dropped (removed m q) k) (sym (before-is D m H x p F))
-        ∙ ap₂ (λ (t : List ℕ) (q : ℕ). renumbered (k + 1) (countOf n) (overlay t 8 (numberBytes 2 (q - 1))) 0) closed n-count
+        ∙ ap₂ (λ (t : List ℕ) (q : ℕ). renumbered (k + 1) (countOf n) (overlay t 8 (numberBytes 2 (q - 1)))) closed n-count
         ∙ lowered-front
         ∙ bytes-next (overlayFront g3 m) (stays g3 g3-fits m deletesPlace (deletesBytes before) (omega arith) stand)
         ∙ ap (λ (e : Front). overlay (overlayFront e m) deletesPlace (deletesBytes (cut deleteIndex x ds))) front-next

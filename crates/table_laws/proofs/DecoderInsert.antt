@@ -42,17 +42,19 @@ module _ (D : Decoder) (m : List ℕ) (H : HoldsDecoder D m) (x p : ℕ) (F : Mi
   before-is : length xs ≡ p
   before-is = length-map (F .before) (rowOfHeld ds) ∙ F .at
 
-  pub opening-decoder : (name value : ℕ) → heldOf m + (name + value + 32) ≤ 4096 → countOf m < 128 → Opening m p name value
-  opening-decoder name value room few =
+  pub opening-decoder : (name value : ℕ) → heldOf m + (name + value + 32) ≤ 4096 → countOf m < 128 → name ≤ 255 → Opening m p name value
+  opening-decoder name value room few short =
       subst (λ (q : ℕ). Opening m q name value) before-is
-      (opening-front f m (H .front) xs ys parted-rows name value (omega (arith, held-is D m H, size-is D m H)) (omega (arith, count-is D m H, length-is D m H)))
+      (opening-front f m (H .front) xs ys parted-rows name value (omega (arith, held-is D m H, size-is D m H)) (omega (arith, count-is D m H, length-is D m H))
+      short)
 
   pub named-decoder : (row : ℕ) → row < countOf m → NamedHere m p row
   named-decoder row h =
       subst (λ (q : ℕ). NamedHere m q row) before-is
       (named-front f m (H .front) xs ys parted-rows row (omega (arith, count-is D m H, length-is D m H)))
 
-  module _ (name value : List ℕ) (fine : FineIndex x) (room : heldOf m + (length name + length value + 32) ≤ 4096) (few : countOf m < 128) where
+  module _ (name value : List ℕ) (fine : FineIndex x) (room : heldOf m + (length name + length value + 32) ≤ 4096) (few : countOf m < 128)
+      (short : length name ≤ 255) where
     abbrev new : Held
     new = record { index = x; entry = record { name = name; value = value } }
 
@@ -74,5 +76,5 @@ module _ (D : Decoder) (m : List ℕ) (H : HoldsDecoder D m) (x p : ℕ) (F : Mi
         let a : rowsSize (f .rows) + (length name + length value + 32) ≤ 4096 = omega (arith, held-is D m H, size-is D m H) in
         let b : length (f .rows) < 128 = omega (arith, count-is D m H, length-is D m H) in
         ap (λ (q : ℕ). inserted m q x name value) (sym before-is)
-        ∙ insert-front f m (H .front) xs ys parted-rows x name value a b
-        ∙ front-only D next g m H (insert-fits f (H .front .fine) xs ys parted-rows x name value a b (omega (arith, fine .1))) front-next refl
+        ∙ insert-front f m (H .front) xs ys parted-rows x name value a b (omega (arith, fine .1)) short
+        ∙ front-only D next g m H (insert-fits f (H .front .fine) xs ys parted-rows x name value a b (omega (arith, fine .1)) short) front-next refl

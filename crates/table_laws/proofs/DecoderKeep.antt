@@ -94,7 +94,8 @@ module _ (D : Decoder) (m : List ℕ) (H : HoldsDecoder D m) (d : Delete) (p : �
       let h : Front = withDeletes g (c + 1) in
       let fit : FineFront h = deletes-fit g g-fits (c + 1) (omega (arith, few)) in
       deletes-front g (statusSet n (length xs) (c + 1)) (status-holds f n n-holds xs r ys split-at (c + 1) (omega (arith, few))) (c + 1)
-      ∙ ap (overlayFront h) (status-front f n n-holds xs r ys split-at (c + 1))
+      (omega (arith, few))
+      ∙ ap (overlayFront h) (status-front f n n-holds xs r ys split-at (c + 1) (omega (arith, few)))
       ∙ over-front g h n fit refl refl
       ∙ front-beyond h m (deletePlace c) (deleteBytes d) (omega arith) fit
 

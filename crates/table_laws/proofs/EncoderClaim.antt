@@ -46,7 +46,7 @@ module _ (E : Encoder) (m : List ℕ) (H : HoldsEncoder E m) where
       missing-front sentIndex rowOfSent (λ s. refl) m (62 + place) (encoderFront E) (H .front) (E .entries) refl place 62 (H .fits .forms .order)
       (says-missing E m H)
 
-  holds-changes : EncoderChanges m E
+  pub holds-changes : EncoderChanges m E
   holds-changes = record {
     ordered = ordered-front (encoderFront E) m (H .front) (says-rise E m H);
     limit = says-limit E m H;
@@ -60,12 +60,12 @@ module _ (E : Encoder) (m : List ℕ) (H : HoldsEncoder E m) where
     unservedBoth = says-unserved-both E m H;
     vacant = says-vacant E m H;
     opening = opens E m H (62 + place) place sent-missing;
-    insert = λ name value room few.
-        inserts E m H (62 + place) place sent-missing name value room few (omega arith)
-        (omega (arith, opens E m H (62 + place) place sent-missing (length name) (length value) room few .below))
+    insert = λ name value room few short.
+        inserts E m H (62 + place) place sent-missing name value room few short
+        (omega (arith, opens E m H (62 + place) place sent-missing (length name) (length value) room few short .below))
         ∙ ap (λ (i : ℕ). overlayEncoder (withSent E (put sentIndex (newSent i name value) (E .entries))) m) (says-vacant E m H);
     delete = λ x row e. deletes E m H x row (sent-found x row e);
-    refer = λ x row s p e h. refers E m H x row (sent-found x row e) s p h;
+    refer = λ x row s p e h. refers E m H x row (sent-found x row e) s p;
     removing = λ x row e. removes E m H x row (sent-found x row e);
     free = λ x row e. frees E m H x row (sent-found x row e);
     write = writes E m H;

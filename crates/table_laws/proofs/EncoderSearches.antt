@@ -1,65 +1,36 @@
--- What the searches of memory that holds an encoder's state find is what the model finds among its entries: the entries are made from the rows, one from each.
+-- What the searches of memory that holds an encoder's state find is what the model finds among its entries, which are read from the rows, one from each.
 use Prim.Native.Nat.{ℕ, zero, suc, _+_, _≤_, _<_}
 use mathlib.Core.Path.{_≡_, refl, sym, ap, subst, _∙_}
 use native.Mathlib.Omega.{arith}
 use mathlib.Core.Bool.{Bool, not, _&&_}
-use mathlib.Core.Option.{Option, none, some, Option·map}
-use mathlib.Core.List.{List, [], _∷_, map}
+use mathlib.Core.Option.{none, some}
+use mathlib.Core.List.{List, map}
 use lib.Dec.{eqb, ltb}
 use lib.ListN.{length, length-map}
-use borrow.Author.Tests.{leb-true, lt-ltb, le-ltb}
+use borrow.Author.Tests.{lt-ltb, le-ltb}
 use Rattle.memory.specs.Compare.{same}
-use Rattle.memory.proofs.Order.{pick-both, pick-true, pick-false}
+use Rattle.memory.proofs.Order.{pick-true, pick-false}
 use Rattle.model.specs.Table.{Ascending, look, first, vacantFrom}
 use Rattle.model.specs.Encoder.{Sent, sentIndex, Encoder, sentSize, serves, servesBoth}
-use Rattle.model_laws.proofs.Tables.{nope, pick-eq, pick-yes, pick-no}
-use Rattle.model_laws.proofs.Marks.{and-both}
+use Rattle.model_laws.proofs.Tables.{pick-eq, pick-no}
 use Rattle.state.specs.Layout.{limitOf, heldOf, countOf, indexAt, statusAt}
-use Rattle.state.specs.Rows.{Row as TableRow, rowIndex, rowsOf, nameAt, valueAt}
-use Rattle.state.specs.EncoderState.{sentOfRow, rowOfSent, encoderOf, encoderFront}
-use Rattle.state.specs.Forms.{referenceOk}
-use Rattle.state_laws.proofs.FrontRead.{read-limit, read-held, read-count, read-rows, read-each}
+use Rattle.state.specs.Rows.{rowIndex, rowsOf, nameAt, valueAt}
+use Rattle.state.specs.EncoderState.{sentAt, sentsOf, rowOfSent, encoderOf, encoderFront}
+use Rattle.state_laws.proofs.FrontRead.{read-limit, read-held, read-count, read-rows}
 use Rattle.state_laws.proofs.RowsTest.{good-ascending}
 use Rattle.state_laws.proofs.SentRows.{sents-size}
-use Rattle.state_laws.proofs.EncoderHolds.{HoldsEncoder, fits-each, holds-state-encoder}
-use Rattle.state_laws.proofs.EncoderForms.{sents-good, pass-rows}
+use Rattle.state_laws.proofs.EncoderHolds.{HoldsEncoder, fits-each, holds-status, holds-state-encoder}
+use Rattle.state_laws.proofs.EncoderForms.{sents-good}
 use Rattle.table_search.specs.Search.{findFrom}
 use Rattle.name_search.specs.Names.{servesAt, servesBothAt, lowestRow}
 use Rattle.table_search.specs.Search as memory
 use Rattle.table_search.specs.declared.find.Found.the-variants.{At, Vacant}
-use Rattle.name_search.specs.declared.names.Sought.{Sought}
 use Rattle.name_search.specs.declared.names.Sought.the-variants.{Row, Nothing}
 use Rattle.table_search.proofs.Modelled.{find-look, find-look-none, vacant-model}
-use Rattle.name_search.proofs.LowestRow.{search-model, search-model-none}
+use Rattle.name_search.proofs.LowestRow.{row-within, search-model, search-model-none}
 use Rattle.table_laws.specs.DecoderChanges.{found, missing}
-use Rattle.table_laws.specs.EncoderChanges.{sentAt}
-
--- ---- entries made from rows
 
 module _ (m : List ℕ) where
-  look-sents : (i : ℕ) (rs : List TableRow) → look sentIndex i (map (sentOfRow m) rs) ≡ Option·map (sentOfRow m) (look rowIndex i rs)
-  unfolding look sentOfRow
-  look-sents i [] = refl
-  look-sents i (r ∷ rs) =
-      pick-eq (λ (o : Option TableRow). look sentIndex i (map (sentOfRow m) (r ∷ rs)) ≡ Option·map (sentOfRow m) o) (r .index) i (some r) (look rowIndex i rs)
-      (λ e. pick-yes (r .index) i _ _ e) (λ e. pick-no (r .index) i _ _ e ∙ look-sents i rs)
-
-  first-sents : (test : Sent → Bool) (rs : List TableRow)
-      → first test (map (sentOfRow m) rs) ≡ Option·map (sentOfRow m) (first (λ r. test (sentOfRow m r)) rs)
-  unfolding first
-  first-sents test [] = refl
-  first-sents test (r ∷ rs) =
-      pick-both (λ (o : Option TableRow). first test (map (sentOfRow m) (r ∷ rs)) ≡ Option·map (sentOfRow m) o) (test (sentOfRow m r)) (some r)
-      (first (λ r. test (sentOfRow m r)) rs)
-      (λ e. pick-true (test (sentOfRow m r)) _ _ e) (λ e. pick-false (test (sentOfRow m r)) _ _ e ∙ first-sents test rs)
-
-  vacant-sents : (n : ℕ) (rs : List TableRow) → vacantFrom sentIndex n (map (sentOfRow m) rs) ≡ vacantFrom rowIndex n rs
-  unfolding vacantFrom sentOfRow
-  vacant-sents n [] = refl
-  vacant-sents n (r ∷ rs) =
-      pick-eq (λ (v : ℕ). vacantFrom sentIndex n (map (sentOfRow m) (r ∷ rs)) ≡ v) (r .index) n (vacantFrom rowIndex (suc n) rs) n
-      (λ e. pick-yes (r .index) n _ _ e ∙ vacant-sents (suc n) rs) (λ e. pick-no (r .index) n _ _ e)
-
   -- a search for the lowest vacant index misses it, at its place
   vacant-beyond : (k i : ℕ) → i ≤ memory.vacantRow m k i
   unfolding memory.vacantRow
@@ -82,14 +53,6 @@ module _ (m : List ℕ) where
       (λ e.
       pick-false (ltb (indexAt m i) (62 + i)) _ _ (le-ltb (indexAt m i) (62 + i) low) ∙ pick-no (indexAt m i) (62 + i) (At i) (Vacant i) e)
 
--- a row that is found is one of those searched
-row-below : (test : ℕ → Bool) (k i p : ℕ) → lowestRow test k i ≡ Row p → p < i + k
-unfolding lowestRow
-row-below test zero i p e = nope (cc)
-row-below test (suc k) i p e =
-    pick-both (λ (r : Sought). r ≡ Row p → p < i + suc k) (test i) (Row i) (lowestRow test k (i + 1))
-    (λ t d. let z : i ≡ p = cc in omega arith) (λ t d. let h = row-below test k (i + 1) p d in omega arith) e
-
 -- a status is 0 or 1: not the one is the other
 status-not : (n : ℕ) → n ≤ 1 → not (eqb n 1) ≡ eqb n 0
 status-not zero h = refl
@@ -97,10 +60,7 @@ status-not (suc zero) h = refl
 status-not (suc (suc n)) h = absurd (omega arith)
 
 module _ (E : Encoder) (m : List ℕ) (H : HoldsEncoder E m) where
-  abbrev rows : List TableRow
-  rows = rowsOf m 0 (countOf m)
-
-  entries-are : map (sentOfRow m) rows ≡ E .entries
+  entries-are : sentsOf m 0 (countOf m) ≡ E .entries
   unfolding encoderOf
   entries-are = ap (λ (F : Encoder). F .entries) (holds-state-encoder E m H)
 
@@ -124,7 +84,7 @@ module _ (E : Encoder) (m : List ℕ) (H : HoldsEncoder E m) where
   unfolding encoderFront
   says-rise = good-ascending 189 62 (map rowOfSent (E .entries)) (sents-good 62 (E .entries) (H .fits .forms .order) (fits-each E (H .fits)))
 
-  rows-rise : Ascending rowIndex 62 rows
+  rows-rise : Ascending rowIndex 62 (rowsOf m 0 (countOf m))
   rows-rise = subst (Ascending rowIndex 62) (sym (read-rows (encoderFront E) m (H .front))) says-rise
 
   pub says-here : (x place : ℕ) → found m x place → (place < countOf m) × (look sentIndex x (E .entries) ≡ some (sentAt m place))
@@ -132,13 +92,13 @@ module _ (E : Encoder) (m : List ℕ) (H : HoldsEncoder E m) where
       let r = find-look m x (countOf m) 0 place f in
       let b = r .2 in (
         omega arith,
-        ap (look sentIndex x) (sym entries-are) ∙ look-sents m x rows ∙ ap (Option·map (sentOfRow m)) (r .0),
+        ap (look sentIndex x) (sym entries-are) ∙ r .0,
       )
 
   pub says-nowhere : (x place : ℕ) → missing m x place → look sentIndex x (E .entries) ≡ none
   says-nowhere x place f =
-      ap (look sentIndex x) (sym entries-are) ∙ look-sents m x rows
-      ∙ ap (Option·map (sentOfRow m)) (find-look-none m x (countOf m) 0 62 place rows-rise f)
+      ap (look sentIndex x) (sym entries-are)
+      ∙ find-look-none m x (countOf m) 0 62 place (subst (Ascending sentIndex 62) (sym entries-are) (H .fits .forms .order)) f
 
   -- ---- by a test
 
@@ -146,31 +106,19 @@ module _ (E : Encoder) (m : List ℕ) (H : HoldsEncoder E m) where
     test-found : (place : ℕ) → lowestRow at (countOf m) 0 ≡ Row place
         → (place < countOf m) × (first test (E .entries) ≡ some (sentAt m place))
     test-found place e =
-        let b = row-below at (countOf m) 0 place e in (
-          omega arith,
-          ap (first test) (sym entries-are) ∙ first-sents m test rows
-              ∙ ap (Option·map (sentOfRow m))
-              (search-model m at (λ r. test (sentOfRow m r)) (countOf m) 0 place (λ j l h. is j (omega arith)) e),
-        )
+        let b = row-within at (countOf m) 0 place e .1 in
+        (omega arith, ap (first test) (sym entries-are) ∙ search-model m at test (countOf m) 0 place (λ j l h. is j (omega arith)) e)
 
     test-missed : lowestRow at (countOf m) 0 ≡ Nothing → first test (E .entries) ≡ none
     test-missed e =
-        ap (first test) (sym entries-are) ∙ first-sents m test rows
-        ∙ ap (Option·map (sentOfRow m)) (search-model-none m at (λ r. test (sentOfRow m r)) (countOf m) 0 (λ j l h. is j (omega arith)) e)
-
-  status-low : (j : ℕ) → j < countOf m → statusAt m j ≤ 1
-  unfolding referenceOk encoderFront
-  status-low j h =
-      let ok = pass-rows m (E .entries) 0 0 (fits-each E (H .fits)) (H .references) (read-each (encoderFront E) m (H .front)) j (omega arith)
-      (omega (arith, says-count)) in
-      leb-true (statusAt m j) 1 (and-both _ _ ok .0)
+        ap (first test) (sym entries-are) ∙ search-model-none m at test (countOf m) 0 (λ j l h. is j (omega arith)) e
 
   serves-is : (name : List ℕ) (j : ℕ) → j < countOf m → serves name (sentAt m j) ≡ servesAt m name j
-  unfolding serves servesAt sentOfRow
-  serves-is name j h = ap (λ (b : Bool). b && same (nameAt m j) name) (status-not (statusAt m j) (status-low j h))
+  unfolding serves servesAt sentAt
+  serves-is name j h = ap (λ (b : Bool). b && same (nameAt m j) name) (status-not (statusAt m j) (holds-status E m H j h))
 
   serves-both-is : (name value : List ℕ) (j : ℕ) → j < countOf m → servesBoth name value (sentAt m j) ≡ servesBothAt m name value j
-  unfolding servesBoth servesBothAt sentOfRow
+  unfolding servesBoth servesBothAt sentAt
   serves-both-is name value j h = ap (λ (b : Bool). b && same (valueAt m j) value) (serves-is name j h)
 
   pub says-serving : (name : List ℕ) (place : ℕ) → lowestRow (servesAt m name) (countOf m) 0 ≡ Row place
@@ -194,4 +142,4 @@ module _ (E : Encoder) (m : List ℕ) (H : HoldsEncoder E m) where
   says-missing = vacant-missing m (countOf m) 0 rows-rise
 
   pub says-vacant : 62 + memory.vacantRow m (countOf m) 0 ≡ vacantFrom sentIndex 62 (E .entries)
-  says-vacant = vacant-model m (countOf m) 0 ∙ sym (vacant-sents m 62 rows) ∙ ap (vacantFrom sentIndex 62) entries-are
+  says-vacant = vacant-model m (countOf m) 0 ∙ ap (vacantFrom sentIndex 62) entries-are

@@ -1,32 +1,34 @@
 -- What each change leaves of memory that holds an encoder's state is the model's next state over it: the front by the laws of its changes at the place where
--- the entry is found or missed, and the references that stand already.
+-- the entry is found or missed, and the horizons by those of columns.
 use Prim.Native.Nat.{ℕ, _+_, _≤_, _<_}
 use mathlib.Core.Path.{_≡_, refl, sym, ap, ap₂, subst, _∙_}
 use native.Mathlib.Omega.{arith}
 use mathlib.Core.List.{List, [], _∷_, _++_, map, map-append}
 use lib.Dec.{eqb}
-use lib.ListN.{length, length-map}
+use lib.ListN.{length, length-map, length-append}
 use Rattle.memory.proofs.Order.{pick-both}
-use Rattle.model.specs.Table.{Ascending, look, put, cut}
+use Rattle.columns.specs.Columns.{columnBytes}
+use Rattle.columns.specs.Pieces.{piece, overlays, HasAll}
+use Rattle.model.specs.Table.{Ascending, put, cut}
 use Rattle.model.specs.Parts.{Part, blockMarks, streams}
 use Rattle.model.specs.Encoder.{Sent, sentIndex, Encoder, startEncoder, withSent, withWritten, newSent, FineSent, asDeleted, markDeleted, referred}
 use Rattle.model_laws.proofs.Tables.{pick-yes, pick-no}
-use Rattle.state.specs.Layout.{encoderRole, heldOf, countOf}
+use Rattle.state.specs.Layout.{frontLength, encoderRole, nontrailerHorizons, trailerHorizons, heldOf, countOf}
 use Rattle.state.specs.Rows.{Row, rowsSize}
-use Rattle.state.specs.Front.{Front, withRows, withMarks, overlayFront}
-use Rattle.state.specs.EncoderState.{rowOfSent, encoderFront, referenceOver, referencesOver, overlayEncoder}
+use Rattle.state.specs.Front.{Front, withRows, overlayFront}
+use Rattle.state.specs.EncoderState.{rowOfSent, encoderFront, nontrailerOf, trailerOf, horizonPieces, overlayEncoder}
 use Rattle.state_laws.proofs.FrontHolds.{FineFront}
 use Rattle.state_laws.proofs.FrontRead.{read-held, read-count}
 use Rattle.state_laws.proofs.FrontOverlay.{overlay-self}
 use Rattle.state_laws.proofs.Each.{Each}
-use Rattle.state_laws.proofs.References.{HasReference, HasReferences, references-same, references-beside}
-use Rattle.state_laws.proofs.ReferenceChanges.{kept-stands, cut-stands}
+use Rattle.state_laws.proofs.Behind.{all-behind}
+use Rattle.state_laws.proofs.Horizons.{horizonsEnd, horizons-order}
 use Rattle.state_laws.proofs.EncoderHolds.{HoldsEncoder, fits-each}
-use Rattle.state_laws.proofs.EncoderOverlay.{references-front}
+use Rattle.state_laws.proofs.EncoderOverlay.{overlay-stands}
 use Rattle.parts.specs.Close.{closedBy}
 use Rattle.table.specs.Changes.{Opening, inserted, Removing, removed, started}
 use Rattle.table_rows.specs.Rows.{statusSet}
-use Rattle.deletes.specs.Deletes.{raised, unreferred}
+use Rattle.horizons.specs.Horizons.{raised, horizonsOpened, horizonsClosed}
 use Rattle.table_laws.specs.EncoderChanges.{referredAt}
 use Rattle.table_laws.proofs.FrontRows.{withStatus}
 use Rattle.table_laws.proofs.FrontFits.{newRow, insert-fits, remove-fits, status-fits, marks-fit}
@@ -37,22 +39,18 @@ use Rattle.table_laws.proofs.FrontOpening.{opening-front}
 use Rattle.table_laws.proofs.FrontInsert.{insert-front}
 use Rattle.table_laws.proofs.FrontRemove.{removing-front, remove-front}
 use Rattle.table_laws.proofs.Finding.{FoundAt, MissingAt}
-use Rattle.table_laws.proofs.EncoderSplits.{each-before, each-behind, none-behind, gone-behind, change-at}
-use Rattle.table_laws.proofs.EncoderReferences.{one-over, referred-index, referred-row, referred-fine, raised-over}
+use Rattle.table_laws.proofs.EncoderSplits.{change-at}
+use Rattle.table_laws.proofs.EncoderHorizons.{referred-row, opens-horizons, closes-horizons, raises-horizon}
 
 -- ---- a fresh state
 
 pub starts : (m : List ℕ) (limit : ℕ) → started m encoderRole limit ≡ overlayEncoder (startEncoder limit) m
-unfolding overlayEncoder encoderFront startEncoder referencesOver
+unfolding overlayEncoder encoderFront startEncoder overlays columnBytes
 starts m limit = start-front m encoderRole limit
 
 -- ---- the entry with index i put under deletion, or referred to: what stays of it, and the others
 
 module _ (i : ℕ) where
-  delete-index : (e : Sent) → markDeleted i e .index ≡ e .index
-  unfolding markDeleted
-  delete-index e = pick-both (λ (d : Sent). d .index ≡ e .index) (eqb (e .index) i) (asDeleted e) e (λ t. refl) (λ t. refl)
-
   delete-nontrailer : (e : Sent) → markDeleted i e .nontrailer ≡ e .nontrailer
   unfolding markDeleted
   delete-nontrailer e = pick-both (λ (d : Sent). d .nontrailer ≡ e .nontrailer) (eqb (e .index) i) (asDeleted e) e (λ t. refl) (λ t. refl)
@@ -87,6 +85,16 @@ module _ (i : ℕ) where
     unfolding referredAt
     refer-other e n = pick-no (e .index) i (referred s p e) e n
 
+-- numbers of entries that a change leaves
+kept : (f : Sent → ℕ) (g : Sent → Sent) → ((e : Sent) → f (g e) ≡ f e) → (es : List Sent) → map f (map g es) ≡ map f es
+kept f g same [] = refl
+kept f g same (e ∷ es) = ap₂ (λ (n : ℕ) (ns : List ℕ). n ∷ ns) (same e) (kept f g same es)
+
+deleted-horizons : (i : ℕ) (es : List Sent) → horizonPieces (map (markDeleted i) es) ≡ horizonPieces es
+deleted-horizons i es =
+    (λ k. piece nontrailerHorizons (columnBytes 2 (kept nontrailerOf (markDeleted i) (delete-nontrailer i) es k))
+    ∷ piece trailerHorizons (columnBytes 2 (kept trailerOf (markDeleted i) (delete-trailer i) es k)) ∷ [])
+
 module _ (E : Encoder) (m : List ℕ) (H : HoldsEncoder E m) where
   abbrev f : Front
   f = encoderFront E
@@ -96,24 +104,29 @@ module _ (E : Encoder) (m : List ℕ) (H : HoldsEncoder E m) where
   unfolding encoderFront
   rows-split xs ys e = ap (map rowOfSent) e ∙ map-append rowOfSent xs ys
 
-  -- other rows over memory, where the references of the entries stand
-  rows-over : (es : List Sent) (rs : List Row) → map rowOfSent es ≡ rs → FineFront (withRows f rs) → HasReferences es m
-      → overlayFront (withRows f rs) m ≡ overlayEncoder (withSent E es) m
+  count-is : countOf m ≡ length (E .entries)
+  unfolding encoderFront
+  count-is = read-count f m (H .front) ∙ length-map (E .entries) rowOfSent
+
+  -- other entries over memory: their rows, and then their horizons
+  entries-over : (es : List Sent) (rs : List Row) → map rowOfSent es ≡ rs
+      → overlays (overlayFront (withRows f rs) m) (horizonPieces es) ≡ overlayEncoder (withSent E es) m
   unfolding overlayEncoder encoderFront
-  rows-over es rs e fine has =
-      let g : Front = withRows f (map rowOfSent es) in
-      ap (λ (r : List Row). overlayFront (withRows f r) m) (sym e)
-      ∙ sym (references-same es (overlayFront g m) (references-front g es m (subst (λ (r : List Row). FineFront (withRows f r)) (sym e) fine) has))
+  entries-over es rs e = ap (λ (r : List Row). overlays (overlayFront (withRows f r) m) (horizonPieces es)) (sym e)
+
+  -- the horizons stand behind any front
+  horizons-behind : (g : Front) → FineFront g → HasAll (overlayFront g m) (horizonPieces (E .entries))
+  horizons-behind g fine =
+      all-behind g m frontLength horizonsEnd (horizonPieces (E .entries)) fine (omega arith) (horizons-order (E .entries) (H .fits .forms .few))
+      (H .horizons)
 
   -- ---- what a block closes that was written
 
   pub writes : (s : ℕ) (p : Part) → s < streams → closedBy p m s ≡ overlayEncoder (withWritten E (blockMarks p s (E .written))) m
-  unfolding overlayEncoder encoderFront
+  unfolding encoderFront
   writes s p h =
-      let g : Front = withMarks f (blockMarks p s (E .written)) in
       block-front p f m (H .front) s h
-      ∙ sym (references-same (E .entries) (overlayFront g m)
-      (references-front g (E .entries) m (marks-fit f (H .front .fine) (blockMarks p s (E .written))) (H .references)))
+      ∙ sym (overlay-stands (withWritten E (blockMarks p s (E .written))) m (marks-fit f (H .front .fine) (blockMarks p s (E .written))) (H .horizons))
 
   -- ---- where an entry is found
 
@@ -133,6 +146,9 @@ module _ (E : Encoder) (m : List ℕ) (H : HoldsEncoder E m) where
     place-here : length (map rowOfSent xs) ≡ place
     place-here = length-map xs rowOfSent ∙ F .at
 
+    few-here : length (xs ++ e ∷ ys) ≤ 128
+    few-here = omega (arith, ap length (F .is), H .fits .forms .few)
+
     order : Ascending sentIndex 62 (xs ++ e ∷ ys)
     order = subst (Ascending sentIndex 62) (F .is) (H .fits .forms .order)
 
@@ -140,14 +156,17 @@ module _ (E : Encoder) (m : List ℕ) (H : HoldsEncoder E m) where
     pub removes : Removing m place
     removes = subst (Removing m) place-here (removing-front f m (H .front) (map rowOfSent xs) (rowOfSent e) (map rowOfSent ys) rows-here)
 
-    pub frees : removed m place ≡ overlayEncoder (withSent E (cut sentIndex x (E .entries))) m
+    pub frees : horizonsClosed (removed m place) place (countOf m) ≡ overlayEncoder (withSent E (cut sentIndex x (E .entries))) m
     frees =
         let us : List Row = map rowOfSent xs in
         let vs : List Row = map rowOfSent ys in
-        ap (removed m) (sym place-here)
-        ∙ remove-front f m (H .front) us (rowOfSent e) vs rows-here
-        ∙ rows-over (cut sentIndex x (E .entries)) (us ++ vs) (ap (map rowOfSent) (F .rest) ∙ map-append rowOfSent xs ys)
-        (remove-fits f (H .front .fine) us (rowOfSent e) vs rows-here) (cut-stands x (E .entries) m (H .references))
+        let n : List ℕ = overlayFront (withRows f (us ++ vs)) m in
+        let left : removed m place ≡ n = ap (removed m) (sym place-here) ∙ remove-front f m (H .front) us (rowOfSent e) vs rows-here in
+        let has = horizons-behind (withRows f (us ++ vs)) (remove-fits f (H .front .fine) us (rowOfSent e) vs rows-here) in
+        (λ k. horizonsClosed (left k) (sym (F .at) k) ((count-is ∙ ap length (F .is)) k))
+        ∙ closes-horizons n xs e ys few-here (subst (λ (l : List Sent). HasAll n (horizonPieces l)) (F .is) has)
+        ∙ entries-over (xs ++ ys) (us ++ vs) (map-append rowOfSent xs ys)
+        ∙ ap (λ (l : List Sent). overlayEncoder (withSent E l) m) (sym (F .rest))
 
     -- it is put under deletion
     rows-deleted : map rowOfSent (map (markDeleted x) (E .entries)) ≡ map rowOfSent xs ++ withStatus (rowOfSent e) 1 ∷ map rowOfSent ys
@@ -158,36 +177,31 @@ module _ (E : Encoder) (m : List ℕ) (H : HoldsEncoder E m) where
         ∙ ap (λ (r : Row). map rowOfSent xs ++ r ∷ map rowOfSent ys) (delete-row x e (F .has))
 
     pub deletes : statusSet m place 1 ≡ overlayEncoder (withSent E (map (markDeleted x) (E .entries))) m
+    unfolding encoderFront
     deletes =
         let us : List Row = map rowOfSent xs in
         let vs : List Row = map rowOfSent ys in
+        let es : List Sent = map (markDeleted x) (E .entries) in
+        let fine = status-fits f (H .front .fine) us (rowOfSent e) vs rows-here 1 (omega arith) in
         ap (λ (i : ℕ). statusSet m i 1) (sym place-here)
-        ∙ status-front f m (H .front) us (rowOfSent e) vs rows-here 1
-        ∙ rows-over (map (markDeleted x) (E .entries)) (us ++ withStatus (rowOfSent e) 1 ∷ vs) rows-deleted
-        (status-fits f (H .front .fine) us (rowOfSent e) vs rows-here 1 (omega arith))
-        (kept-stands (markDeleted x) (delete-index x) (delete-nontrailer x) (delete-trailer x) (E .entries) m (H .references))
+        ∙ status-front f m (H .front) us (rowOfSent e) vs rows-here 1 (omega arith)
+        ∙ ap (λ (rs : List Row). overlayFront (withRows f rs) m) (sym rows-deleted)
+        ∙ sym (overlay-stands (withSent E es) m (subst (λ (rs : List Row). FineFront (withRows f rs)) (sym rows-deleted) fine)
+        (subst (HasAll m) (sym (deleted-horizons x (E .entries))) (H .horizons)))
 
     -- it is referred to
-    pub refers : (s : ℕ) (p : Part) → s < streams → raised m x p s ≡ overlayEncoder (withSent E (map (referredAt s p x) (E .entries))) m
-    unfolding overlayEncoder encoderFront
-    refers s p h =
-        let g : Sent → Sent = referredAt s p x in
-        let d : Sent = referred s p e in
-        let fine = subst (Each FineSent) (F .is) (fits-each E (H .fits)) in
-        let has = subst (λ (l : List Sent). HasReferences l m) (F .is) (H .references) in
-        let this = each-behind FineSent xs (e ∷ ys) fine in
-        let here = each-behind (λ (c : Sent). HasReference c m) xs (e ∷ ys) has in
-        let is : map g (E .entries) ≡ xs ++ d ∷ ys =
-        ap (map g) (F .is) ∙ change-at sentIndex g x (refer-other x s p) 62 xs e ys (F .has) order
-        ∙ ap (λ (c : Sent). xs ++ c ∷ ys) (refer-this x s p e (F .has)) in
-        let gone = ap (λ (i : ℕ). look sentIndex i ys) (referred-index s p e) ∙ gone-behind sentIndex e ys 62 xs order in
-        ap (λ (i : ℕ). raised m i p s) (sym (F .has))
-        ∙ raised-over s e (this .0) m p (here .0)
-        ∙ sym (one-over xs d ys m (each-before (λ (c : Sent). HasReference c m) xs (e ∷ ys) has)
-        (references-beside d (referred-fine s e (this .0) p h) ys m (this .1) gone (here .1)))
-        ∙ ap (λ (l : List Sent). referencesOver l m) (sym is)
-        ∙ ap (referencesOver (map g (E .entries)))
-        (sym (ap (λ (rs : List Row). overlayFront (withRows f rs) m) (refer-rows x s p (E .entries)) ∙ overlay-self f m (H .front)))
+    pub refers : (s : ℕ) (p : Part) → raised m place p s ≡ overlayEncoder (withSent E (map (referredAt s p x) (E .entries))) m
+    unfolding encoderFront
+    refers s p =
+        let es : List Sent = map (referredAt s p x) (E .entries) in
+        let is : xs ++ referred s p e ∷ ys ≡ es =
+        sym (ap (map (referredAt s p x)) (F .is) ∙ change-at sentIndex (referredAt s p x) x (refer-other x s p) 62 xs e ys (F .has) order
+        ∙ ap (λ (c : Sent). xs ++ c ∷ ys) (refer-this x s p e (F .has))) in
+        ap (λ (i : ℕ). raised m i p s) (sym (F .at))
+        ∙ raises-horizon m xs e ys few-here (subst (λ (l : List Sent). HasAll m (horizonPieces l)) (F .is) (H .horizons))
+        (subst (Each FineSent) (F .is) (fits-each E (H .fits))) s p
+        ∙ (λ k. overlays (sym (overlay-self f m (H .front)) k) (horizonPieces (is k)))
+        ∙ entries-over es (map rowOfSent (E .entries)) (refer-rows x s p (E .entries))
 
   -- ---- where an entry is missed
 
@@ -198,17 +212,17 @@ module _ (E : Encoder) (m : List ℕ) (H : HoldsEncoder E m) where
     place-about : length (map rowOfSent (F .before)) ≡ place
     place-about = length-map (F .before) rowOfSent ∙ F .at
 
-    pub opens : (name value : ℕ) → heldOf m + (name + value + 32) ≤ 4096 → countOf m < 128 → Opening m place name value
-    opens name value room few =
+    pub opens : (name value : ℕ) → heldOf m + (name + value + 32) ≤ 4096 → countOf m < 128 → name ≤ 255 → Opening m place name value
+    opens name value room few short =
         subst (λ (i : ℕ). Opening m i name value) place-about
         (opening-front f m (H .front) (map rowOfSent (F .before)) (map rowOfSent (F .after)) rows-about name value
-        (omega (arith, read-held f m (H .front))) (omega (arith, read-count f m (H .front))))
+        (omega (arith, read-held f m (H .front))) (omega (arith, read-count f m (H .front))) short)
 
-    pub inserts : (name value : List ℕ) → heldOf m + (length name + length value + 32) ≤ 4096 → countOf m < 128 → 62 ≤ x → x ≤ 189
-        → unreferred (inserted m place x name value) x ≡ overlayEncoder (withSent E (put sentIndex (newSent x name value) (E .entries))) m
-    -- its reference is that of an entry without text, so the lengths of its name and value need no bound of their own
-    unfolding overlayEncoder encoderFront unreferred referenceOver rowOfSent
-    inserts name value room few low high =
+    pub inserts : (name value : List ℕ) → heldOf m + (length name + length value + 32) ≤ 4096 → countOf m < 128 → length name ≤ 255 → x ≤ 189
+        → horizonsOpened (inserted m place x name value) place (countOf m)
+        ≡ overlayEncoder (withSent E (put sentIndex (newSent x name value) (E .entries))) m
+    unfolding rowOfSent
+    inserts name value room few short high =
         let xs : List Sent = F .before in
         let ys : List Sent = F .after in
         let us : List Row = map rowOfSent xs in
@@ -218,17 +232,12 @@ module _ (E : Encoder) (m : List ℕ) (H : HoldsEncoder E m) where
         let n : List ℕ = overlayFront g m in
         let held : rowsSize (f .rows) + (length name + length value + 32) ≤ 4096 = omega (arith, read-held f m (H .front)) in
         let count : length (f .rows) < 128 = omega (arith, read-count f m (H .front)) in
-        let fine : FineFront g = insert-fits f (H .front .fine) us vs rows-about x name value held count (omega arith) in
-        let has = subst (λ (l : List Sent). HasReferences l n) (F .is) (references-front g (E .entries) m fine (H .references)) in
-        let others = each-behind FineSent xs ys (subst (Each FineSent) (F .is) (fits-each E (H .fits))) in
-        let free = none-behind sentIndex x xs ys (ap (look sentIndex x) (sym (F .is)) ∙ F .looked) in
-        let new : FineSent (newSent x [] []) =
-        record { low = low; high = high; name = omega arith; value = omega arith; nontrailer = omega arith; trailer = omega arith } in
-        let into : put sentIndex e (E .entries) ≡ xs ++ e ∷ ys = F .into e refl in
-        ap (λ (i : ℕ). unreferred (inserted m i x name value) x) (sym place-about)
-        ∙ ap (λ (l : List ℕ). unreferred l x) (insert-front f m (H .front) us vs rows-about x name value held count)
-        ∙ sym (one-over xs e ys n (each-before (λ (c : Sent). HasReference c n) xs ys has)
-        (references-beside (newSent x [] []) new ys n others free (each-behind (λ (c : Sent). HasReference c n) xs ys has)))
-        ∙ ap (λ (l : List Sent). referencesOver l n) (sym into)
-        ∙ ap (λ (rs : List Row). referencesOver (put sentIndex e (E .entries)) (overlayFront (withRows f rs) m))
-        (sym (ap (map rowOfSent) into ∙ map-append rowOfSent xs (e ∷ ys)))
+        let has = horizons-behind g (insert-fits f (H .front .fine) us vs rows-about x name value held count (omega arith) short) in
+        let left : inserted m place x name value ≡ n =
+        ap (λ (i : ℕ). inserted m i x name value) (sym place-about) ∙ insert-front f m (H .front) us vs rows-about x name value held count
+        (omega arith) short in
+        let more : length (xs ++ e ∷ ys) ≤ 128 = omega (arith, count-is, ap length (F .is), length-append xs ys, length-append xs (e ∷ ys)) in
+        (λ k. horizonsOpened (left k) (sym (F .at) k) ((count-is ∙ ap length (F .is)) k))
+        ∙ opens-horizons n xs e ys more refl refl (subst (λ (l : List Sent). HasAll n (horizonPieces l)) (F .is) has)
+        ∙ entries-over (xs ++ e ∷ ys) (us ++ newRow x name value ∷ vs) (map-append rowOfSent xs (e ∷ ys))
+        ∙ ap (λ (l : List Sent). overlayEncoder (withSent E l) m) (sym (F .into e refl))

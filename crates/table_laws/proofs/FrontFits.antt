@@ -13,7 +13,7 @@ use Rattle.state.specs.Front.{Front, withRows, withDeletes, withMarks}
 use Rattle.state_laws.proofs.FrontHolds.{FineRow, FineRows, FineFront}
 use Rattle.state_laws.proofs.FrontLengths.{rowsSize-text, rowsSize-append, fine-append, fine-left, fine-right}
 use Rattle.table.specs.Changes.{freshFront}
-use Rattle.table_laws.proofs.FrontRows.{withStatus, lowered}
+use Rattle.table_laws.proofs.FrontRows.{withStatus, lowered, alike-lowered, alike-length, alike-text}
 
 -- the row of an entry that is put in
 abbrev pub newRow : ℕ → List ℕ → List ℕ → Row
@@ -23,16 +23,7 @@ pub fresh-fits : (role limit : ℕ) → limit < 65536 → FineFront (freshFront 
 unfolding rowsSize total
 fresh-fits role limit h = record { limit = h; few = omega arith; fits = omega arith; deletes = omega arith; rows = tt }
 
--- ---- rows with lower statuses: as many, with the same text
-
-pub length-lowered : (status : ℕ) (rs : List Row) → length (map (lowered status) rs) ≡ length rs
-length-lowered status [] = refl
-length-lowered status (r ∷ rs) = ap suc (length-lowered status rs)
-
-pub text-lowered : (status : ℕ) (rs : List Row) → textBytes (map (lowered status) rs) ≡ textBytes rs
-unfolding textBytes
-text-lowered status [] = refl
-text-lowered status (r ∷ rs) = ap (λ (t : List ℕ). textOf (r .entry) ++ t) (text-lowered status rs)
+-- ---- rows with lower statuses
 
 fine-lowered : (status : ℕ) (rs : List Row) → FineRows rs → FineRows (map (lowered status) rs)
 fine-lowered status [] F = tt
@@ -40,7 +31,6 @@ fine-lowered status (r ∷ rs) F = (
   record {
     index = F .0 .index;
     name = F .0 .name;
-    value = F .0 .value;
     status = pick-both (λ (x : ℕ). x < 65536) (ltb status (r .status)) (r .status - 1) (r .status)
         (λ e. omega (arith, F .0 .status)) (λ e. F .0 .status);
   },
@@ -60,8 +50,9 @@ module _ (f : Front) (F : FineFront f) where
   pub renumber-fits : (status : ℕ) → FineFront (withRows f (map (lowered status) (f .rows)))
   renumber-fits status =
       let rs : List Row = map (lowered status) (f .rows) in
-      let n = length-lowered status (f .rows) in
-      let t : length (textBytes rs) ≡ length (textBytes (f .rows)) = ap length (text-lowered status (f .rows)) in
+      let a = alike-lowered status (f .rows) in
+      let n = alike-length rs (f .rows) a in
+      let t : length (textBytes rs) ≡ length (textBytes (f .rows)) = ap length (alike-text rs (f .rows) a) in
       rows-fit rs (omega (arith, F .few)) (omega (arith, F .fits, rowsSize-text rs, rowsSize-text (f .rows))) (fine-lowered status (f .rows) (F .rows))
 
   -- ---- rows at a split
@@ -74,11 +65,11 @@ module _ (f : Front) (F : FineFront f) where
     fine-after = fine-right xs ys (subst FineRows e (F .rows))
 
     pub insert-fits : (index : ℕ) (name value : List ℕ) → rowsSize (f .rows) + (length name + length value + 32) ≤ 4096
-        → length (f .rows) < 128 → index < 4294967296 → FineFront (withRows f (xs ++ newRow index name value ∷ ys))
+        → length (f .rows) < 128 → index < 4294967296 → length name ≤ 255 → FineFront (withRows f (xs ++ newRow index name value ∷ ys))
     unfolding rowsSize total size
-    insert-fits index name value room few low =
+    insert-fits index name value room few low short =
         let r : Row = newRow index name value in
-        let fine : FineRow r = record { index = low; name = omega arith; value = omega arith; status = omega arith } in
+        let fine : FineRow r = record { index = low; name = omega arith; status = omega arith } in
         rows-fit (xs ++ r ∷ ys)
         (omega (arith, ap length e, length-append xs ys, length-append xs (r ∷ ys)))
         (omega (arith, ap rowsSize e, rowsSize-append xs ys, rowsSize-append xs (r ∷ ys)))
@@ -98,7 +89,7 @@ module _ (f : Front) (F : FineFront f) where
     status-fits status h =
         let s : Row = withStatus r status in
         let E = fine-after xs (r ∷ ys) e in
-        let fine : FineRow s = record { index = E .0 .index; name = E .0 .name; value = E .0 .value; status = h } in
+        let fine : FineRow s = record { index = E .0 .index; name = E .0 .name; status = h } in
         rows-fit (xs ++ s ∷ ys)
         (omega (arith, F .few, ap length e, length-append xs (s ∷ ys), length-append xs (r ∷ ys)))
         (omega (arith, F .fits, ap rowsSize e, rowsSize-append xs (s ∷ ys), rowsSize-append xs (r ∷ ys)))

@@ -31,11 +31,11 @@ start-holds m role limit long low =
 
 module _ (f : Front) (m : List ℕ) (H : HoldsFront f m) where
   pub insert-holds : (xs ys : List Row) → f .rows ≡ xs ++ ys → (index : ℕ) (name value : List ℕ)
-      → rowsSize (f .rows) + (length name + length value + 32) ≤ 4096 → length (f .rows) < 128 → index < 4294967296
+      → rowsSize (f .rows) + (length name + length value + 32) ≤ 4096 → length (f .rows) < 128 → index < 4294967296 → length name ≤ 255
       → HoldsFront (withRows f (xs ++ newRow index name value ∷ ys)) (inserted m (length xs) index name value)
-  insert-holds xs ys e index name value room few low =
+  insert-holds xs ys e index name value room few low short =
       kept-front f (withRows f (xs ++ newRow index name value ∷ ys)) m (inserted m (length xs) index name value) H
-      (insert-fits f (H .fine) xs ys e index name value room few low) (insert-front f m H xs ys e index name value room few)
+      (insert-fits f (H .fine) xs ys e index name value room few low short) (insert-front f m H xs ys e index name value room few low short)
 
   pub remove-holds : (xs : List Row) (r : Row) (ys : List Row) → f .rows ≡ xs ++ r ∷ ys → HoldsFront (withRows f (xs ++ ys)) (removed m (length xs))
   remove-holds xs r ys e =
@@ -45,15 +45,15 @@ module _ (f : Front) (m : List ℕ) (H : HoldsFront f m) where
       → HoldsFront (withRows f (xs ++ withStatus r status ∷ ys)) (statusSet m (length xs) status)
   status-holds xs r ys e status low =
       kept-front f (withRows f (xs ++ withStatus r status ∷ ys)) m (statusSet m (length xs) status) H
-      (status-fits f (H .fine) xs r ys e status low) (status-front f m H xs r ys e status)
+      (status-fits f (H .fine) xs r ys e status low) (status-front f m H xs r ys e status low)
 
-  pub renumber-holds : (status : ℕ) → HoldsFront (withRows f (map (lowered status) (f .rows))) (renumbered status (countOf m) m 0)
+  pub renumber-holds : (status : ℕ) → HoldsFront (withRows f (map (lowered status) (f .rows))) (renumbered status (countOf m) m)
   renumber-holds status =
-      kept-front f (withRows f (map (lowered status) (f .rows))) m (renumbered status (countOf m) m 0) H
+      kept-front f (withRows f (map (lowered status) (f .rows))) m (renumbered status (countOf m) m) H
       (renumber-fits f (H .fine) status) (renumber-front f m H status)
 
   pub deletes-hold : (n : ℕ) → n < 65536 → HoldsFront (withDeletes f n) (overlay m 8 (numberBytes 2 n))
-  deletes-hold n low = kept-front f (withDeletes f n) m (overlay m 8 (numberBytes 2 n)) H (deletes-fit f (H .fine) n low) (deletes-front f m H n)
+  deletes-hold n low = kept-front f (withDeletes f n) m (overlay m 8 (numberBytes 2 n)) H (deletes-fit f (H .fine) n low) (deletes-front f m H n low)
 
   pub marks-hold : (s : ℕ) → s < 4096 → (p : Part) → HoldsFront (withMarks f (mark s p (f .marks))) (cleared m (marksPlace p) s)
   marks-hold s h p =

@@ -10,6 +10,7 @@ use lib.ListN.{length}
 use Rattle.memory.specs.Choice.{pick}
 use Rattle.memory.specs.Bytes.{overlay, Has}
 use Rattle.memory.proofs.Places.{has-left, has-right}
+use Rattle.columns.proofs.Within.{store-start, store-end}
 use Rattle.marks.specs.Marks.{cleared, wordsBytes}
 use Rattle.marks.proofs.Clearing.{cleared-words}
 use Rattle.marks.proofs.Words.{words-length, words-same}
@@ -19,7 +20,6 @@ use Rattle.state.specs.Front.{Front, withMarks, marksBytes, overlayFront}
 use Rattle.state_laws.proofs.FrontHolds.{HoldsFront}
 use Rattle.state_laws.proofs.FrontOverlay.{overlay-self}
 use Rattle.parts.specs.Close.{closedBoth, closedBy}
-use Rattle.table_laws.proofs.Within.{store-start, store-end}
 use Rattle.table_laws.proofs.Fronts.{kept-front, then-front}
 use Rattle.table_laws.proofs.FrontFits.{marks-fit}
 use Rattle.table_laws.proofs.FrontStores.{marks-stored}

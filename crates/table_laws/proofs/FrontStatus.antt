@@ -1,43 +1,47 @@
--- A status stored in memory that holds a front, and lower statuses in all its rows, are the front with those rows over it: their text stays.
-use Prim.Native.Nat.{ℕ, _+_}
-use mathlib.Core.Path.{_≡_, sym, ap, _∙_}
-use mathlib.Core.List.{List, _∷_, _++_, map}
-use lib.ListN.{length, length-append}
-use Rattle.memory.specs.Bytes.{overlay}
-use Rattle.memory.proofs.Places.{has-left}
-use Rattle.state.specs.Layout.{rowPlace, countOf}
-use Rattle.state.specs.Rows.{Row, rowBytes, rowsBytes, textOf, textBytes}
+-- A status stored in memory that holds a front, and lower statuses in all its rows, are the front with those rows over it: their column is stored anew.
+use Prim.Native.Nat.{ℕ, _+_, _*_, _<_}
+use mathlib.Core.Path.{_≡_, refl, sym, ap, subst, _∙_}
+use mathlib.Core.List.{List, [], _∷_, _++_, map, map-append}
+use lib.ListN.{length, length-map}
+use Rattle.memory.specs.Bytes.{overlay, Has}
+use Rattle.memory.specs.Numbers.{numberBytes}
+use Rattle.columns.specs.Columns.{columnBytes, changed}
+use Rattle.columns.proofs.Columns.{column-set, column-changed}
+use Rattle.state.specs.Layout.{statusesPlace, countOf}
+use Rattle.state.specs.Rows.{Row, rowStatus}
 use Rattle.state.specs.Front.{Front, withRows, overlayFront}
 use Rattle.state_laws.proofs.FrontHolds.{HoldsFront}
-use Rattle.state_laws.proofs.FrontLengths.{length-rowBytes, length-rowsBytes, textBytes-append}
+use Rattle.state_laws.proofs.FrontLengths.{statuses-fit}
 use Rattle.state_laws.proofs.FrontRead.{read-count}
 use Rattle.table_rows.specs.Rows.{statusSet}
-use Rattle.deletes.specs.Deletes.{renumbered}
-use Rattle.table_laws.proofs.Within.{store-within}
-use Rattle.table_laws.proofs.FrontRows.{withStatus, lowered, row-status, renumber-law}
-use Rattle.table_laws.proofs.FrontFits.{length-lowered, text-lowered}
-use Rattle.table_laws.proofs.FrontStores.{rows-stored}
-use Rattle.table_laws.proofs.FrontSplice.{rows-two, rows-stand, rows-after}
+use Rattle.deletes.specs.Deletes.{lowered as lower, renumbered}
+use Rattle.table_laws.proofs.FrontRows.{Alike, withStatus, lowered, alike-status, alike-lowered}
+use Rattle.table_laws.proofs.FrontFits.{status-fits, renumber-fits}
+use Rattle.table_laws.proofs.FrontStores.{statuses-stored}
+
+lowered-statuses : (status : ℕ) (rs : List Row) → map (lower status) (map rowStatus rs) ≡ map rowStatus (map (lowered status) rs)
+lowered-statuses status [] = refl
+lowered-statuses status (r ∷ rs) = ap (λ (l : List ℕ). lower status (r .status) ∷ l) (lowered-statuses status rs)
 
 module _ (f : Front) (m : List ℕ) (H : HoldsFront f m) where
-  pub status-front : (xs : List Row) (r : Row) (ys : List Row) → f .rows ≡ xs ++ r ∷ ys → (status : ℕ)
+  pub status-front : (xs : List Row) (r : Row) (ys : List Row) → f .rows ≡ xs ++ r ∷ ys → (status : ℕ) → status < 65536
       → statusSet m (length xs) status ≡ overlayFront (withRows f (xs ++ withStatus r status ∷ ys)) m
-  unfolding rowsBytes textBytes
-  status-front xs r ys e status =
-      let s : Row = withStatus r status in
-      let o : ℕ = length (textBytes xs) in
-      let after : List ℕ = rowsBytes (o + length (textOf (r .entry))) ys in
-      let same : length (rowBytes o r) ≡ length (rowBytes o s) = length-rowBytes o r ∙ sym (length-rowBytes o s) in
-      let count : length (xs ++ s ∷ ys) ≡ length (f .rows) = length-append xs (s ∷ ys) ∙ sym (ap length e ∙ length-append xs (r ∷ ys)) in
-      let text : textBytes (xs ++ s ∷ ys) ≡ textBytes (f .rows) = textBytes-append xs (s ∷ ys) ∙ sym (ap textBytes e ∙ textBytes-append xs (r ∷ ys)) in
-      row-status m (length xs) o r (has-left m (rowPlace (length xs)) (rowBytes o r) after (rows-after f m H xs (r ∷ ys) e)) status
-      ∙ ap (λ (j : ℕ). overlay m (1088 + j) (rowBytes o s)) (sym (length-rowsBytes 0 xs))
-      ∙ store-within m 1088 (rowsBytes 0 xs) (rowBytes o r) (rowBytes o s) after same (rows-stand f m H xs (r ∷ ys) e)
-      ∙ ap (overlay m 1088) (sym (rows-two xs (s ∷ ys)))
-      ∙ rows-stored f m H (xs ++ s ∷ ys) count text
+  unfolding statusSet
+  status-front xs r ys e status low =
+      let us : List ℕ = map rowStatus xs in
+      let vs : List ℕ = map rowStatus ys in
+      let rs : List Row = xs ++ withStatus r status ∷ ys in
+      let stand : Has m statusesPlace (columnBytes 2 (us ++ r .status ∷ vs)) =
+      subst (λ (l : List ℕ). Has m statusesPlace (columnBytes 2 l)) (ap (map rowStatus) e ∙ map-append rowStatus xs (r ∷ ys)) (H .statuses) in
+      ap (λ (n : ℕ). overlay m (1990 + 2 * n) (numberBytes 2 status)) (sym (length-map xs rowStatus))
+      ∙ column-set 2 m statusesPlace us (r .status) vs status stand
+      ∙ ap (λ (l : List ℕ). overlay m statusesPlace (columnBytes 2 l)) (sym (map-append rowStatus xs (withStatus r status ∷ ys)))
+      ∙ statuses-stored f m H rs (subst (Alike rs) (sym e) (alike-status xs r ys status)) (status-fits f (H .fine) xs r ys e status low)
 
-  pub renumber-front : (status : ℕ) → renumbered status (countOf m) m 0 ≡ overlayFront (withRows f (map (lowered status) (f .rows))) m
+  pub renumber-front : (status : ℕ) → renumbered status (countOf m) m ≡ overlayFront (withRows f (map (lowered status) (f .rows))) m
+  unfolding renumbered
   renumber-front status =
-      ap (λ (k : ℕ). renumbered status k m 0) (read-count f m H)
-      ∙ renumber-law status (f .rows) m 0 0 (H .fine .rows) (H .rows)
-      ∙ rows-stored f m H (map (lowered status) (f .rows)) (length-lowered status (f .rows)) (text-lowered status (f .rows))
+      ap (λ (k : ℕ). changed (lower status) 2 k m statusesPlace) (read-count f m H ∙ sym (length-map (f .rows) rowStatus))
+      ∙ column-changed (lower status) 2 m statusesPlace [] (map rowStatus (f .rows)) (statuses-fit (f .rows) (H .fine .rows)) (H .statuses)
+      ∙ ap (λ (l : List ℕ). overlay m statusesPlace (columnBytes 2 l)) (lowered-statuses status (f .rows))
+      ∙ statuses-stored f m H (map (lowered status) (f .rows)) (alike-lowered status (f .rows)) (renumber-fits f (H .fine) status)

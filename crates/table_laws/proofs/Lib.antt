@@ -1,7 +1,6 @@
 -- The laws of the changes.
 
--- stores within what stands, and fronts over fronts
-pub mod Within
+-- fronts over fronts
 pub mod Fronts
 -- what each change of the part that both ends share leaves in memory is a front over the old memory
 pub mod FrontRows
@@ -28,9 +27,9 @@ pub mod DecoderFree
 pub mod DecoderClaim
 -- a place is always left
 pub mod Room
--- the encoder: what searches find, entries about a place, their references, what each change leaves, and the claim
+-- the encoder: what searches find, an entry changed, horizons, what each change leaves, and the claim
 pub mod EncoderSearches
 pub mod EncoderSplits
-pub mod EncoderReferences
+pub mod EncoderHorizons
 pub mod EncoderUpdates
 pub mod EncoderClaim

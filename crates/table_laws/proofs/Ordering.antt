@@ -2,11 +2,11 @@
 use Prim.Native.Nat.{ℕ, suc, _+_, _≤_, _<_}
 use mathlib.Core.Path.{_≡_, ap, _∙_}
 use native.Mathlib.Omega.{arith}
-use mathlib.Core.List.{List, [], _∷_}
+use mathlib.Core.List.{List, [], _∷_, _++_}
 use lib.ListN.{length, length-append}
 use Rattle.memory.proofs.Order.{split}
 use Rattle.model.specs.Table.{Ascending}
-use Rattle.state.specs.Layout.{indexAt, offsetAt, nameLengthAt, valueLengthAt}
+use Rattle.state.specs.Layout.{indexAt, offsetAt, nameLengthAt}
 use Rattle.state.specs.Rows.{Row, rowIndex, textOf, textBytes}
 use Rattle.state.specs.Front.{Front}
 use Rattle.state_laws.proofs.FrontHolds.{HoldsFront}
@@ -39,19 +39,20 @@ module _ (m : List ℕ) where
       let w = rows-low rs (i + 1) p (suc (r .index)) k (R .1) (A .1) (omega arith) (omega arith) in
       omega arith)
 
+  -- the text of each holds its name, and ends where all text ends or before
   rows-within : (rs : List Row) (i o j : ℕ) → RowsRead m i o rs → i ≤ j → j < i + length rs
-      → offsetAt m j + (nameLengthAt m j + valueLengthAt m j) ≤ o + length (textBytes rs)
+      → (offsetAt m j + nameLengthAt m j ≤ offsetAt m (j + 1)) × (offsetAt m (j + 1) ≤ o + length (textBytes rs))
   unfolding textBytes
   rows-within [] i o j R a b = absurd (omega arith)
   rows-within (r ∷ rs) i o j R a b =
       let w : ℕ = length (textOf (r .entry)) in
       let l = length-append (textOf (r .entry)) (textBytes rs) in
       split i j
-      (λ h. omega (arith, rows-within rs (i + 1) (o + w) j (R .1) (omega arith) (omega arith)))
-      (λ h. let z : j ≡ i = omega arith in
-      let e : offsetAt m j + (nameLengthAt m j + valueLengthAt m j) ≡ offsetAt m i + (nameLengthAt m i + valueLengthAt m i) =
-      ap (λ (x : ℕ). offsetAt m x + (nameLengthAt m x + valueLengthAt m x)) z in
-      omega (arith, R .0 .offset, R .0 .name, R .0 .value, length-text r))
+      (λ h. let q = rows-within rs (i + 1) (o + w) j (R .1) (omega arith) (omega arith) in (q .0, omega (arith, q .1)))
+      (λ h. let z : i ≡ j = omega arith in
+      let here : (offsetAt m i + nameLengthAt m i ≤ offsetAt m (i + 1)) × (offsetAt m (i + 1) ≤ o + length (textOf (r .entry) ++ textBytes rs)) =
+      (omega (arith, R .0 .offset, R .0 .name, R .0 .next, length-text r), omega (arith, R .0 .next)) in
+      rw z at here)
 
 pub ordered-front : (f : Front) (m : List ℕ) → HoldsFront f m → Ascending rowIndex 62 (f .rows) → Ordered m
 ordered-front f m H A =
@@ -63,5 +64,6 @@ ordered-front f m H A =
       few = omega (arith, H .fine .few);
       low = λ i h. let w = rows-low m rs 0 0 62 i R A (omega arith) (omega arith) in omega arith;
       rising = λ i j h k. rows-rising m rs 0 0 62 i j R A (omega arith) h (omega arith);
-      text = λ i h. omega (arith, rows-within m rs 0 0 i R (omega arith) (omega arith), fine-text f (H .fine));
+      name = λ i h. rows-within m rs 0 0 i R (omega arith) (omega arith) .0;
+      text = λ i h. omega (arith, rows-within m rs 0 0 i R (omega arith) (omega arith) .1, fine-text f (H .fine));
     }

@@ -9,7 +9,7 @@ use lib.Dec.{eqb, leb}
 use Rattle.integers.specs.Integer.{largest}
 use Rattle.model_laws.proofs.Marks.{and-both}
 use Rattle.state.specs.Layout.{decoderLength, decoderRole, encoderLength, encoderRole, heldOf, countOf, deleteCount}
-use Rattle.state.specs.Forms.{headOk, rowsOk, statusOk, referenceOk, formsDecoder, formsEncoder}
+use Rattle.state.specs.Forms.{headOk, rowsOk, formsDecoder, formsEncoder}
 use Rattle.state_laws.proofs.RowsTest.{rows-within}
 use Rattle.table_laws.specs.Room.{RoomClaim}
 
@@ -18,15 +18,16 @@ unfolding formsDecoder
 decoder-heads m forms =
     let p = and-both (headOk decoderRole decoderLength m) _ forms in
     let q = and-both (leb (deleteCount m) 256) _ (p .1) in
-    let r = and-both (rowsOk (statusOk m) m largest (countOf m) 0 62 0) _ (q .1) in
-    omega (arith, rows-within (statusOk m) m largest (countOf m) 0 62 0 (r .0))
+    let r = and-both (rowsOk m largest (countOf m)) _ (q .1) in
+    rows-within m largest (countOf m) (r .0)
 
 encoder-heads : (m : List ℕ) → formsEncoder m ≡ true → 32 * countOf m ≤ heldOf m
 unfolding formsEncoder
 encoder-heads m forms =
     let p = and-both (headOk encoderRole encoderLength m) _ forms in
     let q = and-both (eqb (deleteCount m) 0) _ (p .1) in
-    omega (arith, rows-within (referenceOk m) m 189 (countOf m) 0 62 0 (q .1))
+    let r = and-both (rowsOk m 189 (countOf m)) _ (q .1) in
+    rows-within m 189 (countOf m) (r .0)
 
 pub room-claim : RoomClaim
 room-claim = record {

@@ -52,9 +52,10 @@ pub record DecoderChanges (m : List ℕ) (D : Decoder) : Type 0 where
   -- each delete has its entry, whose row points at it
   pub kept : (k : ℕ) → k < deleteCount m → (place : ℕ) × found m (deleteIndexAt m k) place × (statusAt m place ≡ suc k)
   -- ---- an entry put in: "otherwise room is always found"
-  pub opening : (x place name value : ℕ) → missing m x place → heldOf m + (name + value + 32) ≤ 4096 → countOf m < 128 → Opening m place name value
+  pub opening : (x place name value : ℕ) → missing m x place → heldOf m + (name + value + 32) ≤ 4096 → countOf m < 128 → name ≤ 255 → Opening m place name value
   pub named : (x place y row : ℕ) → missing m x place → found m y row → NamedHere m place row
   pub insert : (x place : ℕ) (name value : List ℕ) → missing m x place → FineIndex x → heldOf m + (length name + length value + 32) ≤ 4096 → countOf m < 128
+      → length name ≤ 255
       → inserted m place x name value ≡ overlayDecoder (withEntries D (put heldIndex (record { index = x; entry = record { name = name; value = value } }) (D .entries))) m
   -- ---- a delete kept, and an entry freed with its delete
   pub room : (x place : ℕ) → found m x place → statusAt m place ≡ 0 → deleteCount m < 128

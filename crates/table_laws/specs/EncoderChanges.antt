@@ -12,8 +12,7 @@ use Rattle.model.specs.Table.{look, put, cut, first, vacantFrom}
 use Rattle.model.specs.Parts.{Part, blockMarks, streams}
 use Rattle.model.specs.Encoder.{Sent, sentIndex, Encoder, sentSize, startEncoder, withSent, withWritten, newSent, serves, servesBoth, markDeleted, referred}
 use Rattle.state.specs.Layout.{encoderLength, encoderRole, limitOf, heldOf, countOf}
-use Rattle.state.specs.Rows.{rowAt}
-use Rattle.state.specs.EncoderState.{sentOfRow, encoderOf, overlayEncoder}
+use Rattle.state.specs.EncoderState.{sentAt, encoderOf, overlayEncoder}
 use Rattle.state.specs.Forms.{formsEncoder}
 use Rattle.parts.specs.Close.{closedBy}
 use Rattle.table_search.specs.Search.{Ordered}
@@ -22,7 +21,7 @@ use Rattle.table_search.specs.Search as memory
 use Rattle.name_search.specs.declared.names.Sought.the-variants.{Row, Nothing}
 use Rattle.table.specs.Changes.{Opening, inserted, Removing, removed, started}
 use Rattle.table_rows.specs.Rows.{statusSet}
-use Rattle.deletes.specs.Deletes.{raised, unreferred}
+use Rattle.horizons.specs.Horizons.{raised, horizonsOpened, horizonsClosed}
 use Rattle.table_laws.specs.DecoderChanges.{found, missing}
 
 -- memory that forms an encoder's state, and what it stands for
@@ -30,10 +29,6 @@ pub record EncoderStands (m : List ℕ) (E : Encoder) : Type 0 where
   pub small : Small m
   pub forms : formsEncoder m ≡ true
   pub state : encoderOf m ≡ E
-
--- the entry that stands in a row
-abbrev pub sentAt : List ℕ → ℕ → Sent
-sentAt m place = sentOfRow m (rowAt m place)
 
 -- the entry with index i referred to by a block of this kind on stream s
 unfoldable pub referredAt : ℕ → Part → ℕ → Sent → Sent
@@ -58,16 +53,17 @@ pub record EncoderChanges (m : List ℕ) (E : Encoder) : Type 0 where
   -- "the lowest from 62 that is not held"
   pub vacant : 62 + memory.vacantRow m (countOf m) 0 ≡ vacantFrom sentIndex 62 (E .entries)
   -- ---- an entry put in at it
-  pub opening : (name value : ℕ) → heldOf m + (name + value + 32) ≤ 4096 → countOf m < 128 → Opening m (memory.vacantRow m (countOf m) 0) name value
+  pub opening : (name value : ℕ) → heldOf m + (name + value + 32) ≤ 4096 → countOf m < 128 → name ≤ 255 → Opening m (memory.vacantRow m (countOf m) 0) name value
   pub insert : (name value : List ℕ) → heldOf m + (length name + length value + 32) ≤ 4096 → countOf m < 128
-      → unreferred (inserted m (memory.vacantRow m (countOf m) 0) (62 + memory.vacantRow m (countOf m) 0) name value) (62 + memory.vacantRow m (countOf m) 0)
+      → length name ≤ 255
+      → horizonsOpened (inserted m (memory.vacantRow m (countOf m) 0) (62 + memory.vacantRow m (countOf m) 0) name value) (memory.vacantRow m (countOf m) 0) (countOf m)
       ≡ overlayEncoder (withSent E (put sentIndex (newSent (vacantFrom sentIndex 62 (E .entries)) name value) (E .entries))) m
   -- ---- an entry put under deletion, referred to, and freed
   pub delete : (x place : ℕ) → found m x place → statusSet m place 1 ≡ overlayEncoder (withSent E (map (markDeleted x) (E .entries))) m
   pub refer : (x place s : ℕ) (p : Part) → found m x place → s < streams
-      → raised m x p s ≡ overlayEncoder (withSent E (map (referredAt s p x) (E .entries))) m
+      → raised m place p s ≡ overlayEncoder (withSent E (map (referredAt s p x) (E .entries))) m
   pub removing : (x place : ℕ) → found m x place → Removing m place
-  pub free : (x place : ℕ) → found m x place → removed m place ≡ overlayEncoder (withSent E (cut sentIndex x (E .entries))) m
+  pub free : (x place : ℕ) → found m x place → horizonsClosed (removed m place) place (countOf m) ≡ overlayEncoder (withSent E (cut sentIndex x (E .entries))) m
   -- ---- what a block closes that was written
   pub write : (s : ℕ) (p : Part) → s < streams → closedBy p m s ≡ overlayEncoder (withWritten E (blockMarks p s (E .written))) m
 

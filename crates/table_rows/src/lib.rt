@@ -1,63 +1,86 @@
-// The rows of the table: their offsets laid again, and the record of held size and count.
+// The rows of the table: put in and taken out, and the record of held size and count.
 ghost use mathlib.Core.Path.{_≡_};
-ghost use Prim.Native.Nat.{ℕ, _+_, _*_, _-_, _≤_, _<_};
+ghost use Prim.Native.Nat.{ℕ, _+_, _-_, _≤_, _<_};
 ghost use lib.ListN.{length};
 ghost use lib.Dec.{leb};
-ghost use Rattle.state.specs.Layout.{frontLength, headLength, limitOf, heldOf, countOf, nameLengthAt, valueLengthAt};
-ghost use Rattle.table_rows.specs.Rows.{laid, recorded, startOf};
+ghost use Rattle.state.specs.Layout.{frontLength, headLength, limitOf, heldOf, countOf};
+ghost use Rattle.table_rows.specs.Rows.{offsetsOpened, rowOpened, offsetsClosed, rowClosed, recorded};
 
 pub mod account;
 
 use crate::account::Account;
 use crate::account::after_insert;
 use crate::account::after_removal;
+use columns::column::close;
+use columns::column::open_u8;
+use columns::column::open_u16;
+use columns::column::open_u32;
+use columns::column::shift;
+use integers::number::TableIndex;
 use state::head::count_of;
 use state::head::held_of;
 use state::head::limit_of;
 use state::head::put_count;
 use state::head::put_held;
-use state::layout::ENTRY_SIZE;
-use state::row::name_length_at;
-use state::row::offset_at;
-use state::row::put_offset;
-use state::row::value_length_at;
+use state::layout::INDEXES;
+use state::layout::NAME_LENGTHS;
+use state::layout::OFFSETS;
+use state::layout::STATUSES;
+use state::row::INDEX;
+use state::row::NAME_LENGTH;
+use state::row::OFFSET;
+use state::row::STATUS;
 
-// An offset has two bytes. Those of a table in order are far lower.
-const OFFSETS: usize = 65_536;
+// An offset has two bytes.
+const NUMBERS: u32 = 65_536;
 
-// How many bytes of text row `i` has.
-pub fn text_length(m: &[u8], i: usize) -> usize
-    requires { ⌜ (i < 128) × (frontLength ≤ length (now m)) ⌝ }
-    ensures { λ r. ⌜ (r ≡ nameLengthAt (now (m .entry)) i + valueLengthAt (now (m .entry)) i) × (r < 131072) ⌝ }
+// The text of a new row starts at `offset`; the texts behind it start `text` bytes later.
+fn open_offsets(m: &mut [u8], place: usize, count: usize, offset: u16, text: u32)
+    requires { ⌜ (place ≤ count) × (count < 128) × (text ≤ 4096) × (frontLength ≤ length (now m)) ⌝ }
+    ensures { λ _. ⌜ now (m .exit) ≡ offsetsOpened (now (m .entry)) place count offset text ⌝ }
 {
-    (name_length_at(m, i) as usize) + (value_length_at(m, i) as usize)
+    open_u16(m, OFFSETS, place, count + 1, offset);
+    shift(m, OFFSETS + OFFSET * (place + 1), count + 1 - place, text);
 }
 
-// Gives the rows from `from` up to `count` the text offsets that follow `start`.
-pub fn lay(m: &mut [u8], from: usize, count: usize, start: usize)
-    requires { ⌜ (frontLength ≤ length (now m)) × (from ≤ count) × (count ≤ 128) × (start ≤ 4096) ⌝ }
-    ensures { λ _. ⌜ now (m .exit) ≡ laid (count - from) (now (m .entry)) from start ⌝ }
+// Puts a row in at `place` of `count` rows: the numbers behind it move up. Its entry has a name of `name` bytes and `text` bytes in all.
+pub fn open_row(
+    m: &mut [u8],
+    place: usize,
+    count: usize,
+    index: TableIndex,
+    offset: u16,
+    name: u8,
+    text: u32,
+)
+    requires { ⌜ (place ≤ count) × (count < 128) × (text ≤ 4096) × (frontLength ≤ length (now m)) ⌝ }
+    ensures { λ _. ⌜ now (m .exit) ≡ rowOpened (now (m .entry)) place count (index .value) offset name text ⌝ }
 {
-    let mut offset: usize = start;
-    let mut i: usize = from;
-    while i < count {
-        let text = text_length(m, i);
-        put_offset(m, i, (offset % OFFSETS) as u16);
-        offset += text;
-        i += 1;
-    }
+    // In front of the first index stands one more number.
+    open_u32(m, INDEXES - INDEX, place + 1, count + 1, index.value);
+    open_offsets(m, place, count, offset, text);
+    open_u8(m, NAME_LENGTHS, place, count, name);
+    open_u16(m, STATUSES, place, count, 0);
 }
 
-// Where the text of a row at this place starts: with the row that is there, or after all text.
-pub fn text_start(m: &[u8], place: usize) -> usize
-    requires { ⌜ (frontLength ≤ length (now m)) × (countOf (now m) ≤ 128) × (32 * countOf (now m) ≤ heldOf (now m)) ⌝ }
-    ensures { λ r. ⌜ r ≡ startOf (now (m .entry)) place ⌝ }
+// The texts behind a row that goes start `text` bytes earlier.
+fn close_offsets(m: &mut [u8], place: usize, count: usize, text: u32)
+    requires { ⌜ (place < count) × (count ≤ 128) × (text ≤ 4096) × (frontLength ≤ length (now m)) ⌝ }
+    ensures { λ _. ⌜ now (m .exit) ≡ offsetsClosed (now (m .entry)) place count text ⌝ }
 {
-    let count = count_of(m) as usize;
-    if place < count {
-        return offset_at(m, place) as usize;
-    }
-    (held_of(m) as usize) - ENTRY_SIZE * count
+    close(m, OFFSETS, OFFSET, place, count + 1);
+    shift(m, OFFSETS + OFFSET * place, count - place, NUMBERS - text);
+}
+
+// Takes the row at `place` of `count` rows out, which has `text` bytes of text: the numbers behind it close up.
+pub fn close_row(m: &mut [u8], place: usize, count: usize, text: u32)
+    requires { ⌜ (place < count) × (count ≤ 128) × (text ≤ 4096) × (frontLength ≤ length (now m)) ⌝ }
+    ensures { λ _. ⌜ now (m .exit) ≡ rowClosed (now (m .entry)) place count text ⌝ }
+{
+    close(m, INDEXES - INDEX, INDEX, place + 1, count + 1);
+    close_offsets(m, place, count, text);
+    close(m, NAME_LENGTHS, NAME_LENGTH, place, count);
+    close(m, STATUSES, STATUS, place, count);
 }
 
 // Does an entry of this size stay within the limit?

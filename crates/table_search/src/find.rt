@@ -55,13 +55,16 @@ pub fn lowest_vacant(m: &[u8]) -> usize
     requires { ⌜ Ordered (now m) ⌝ }
     ensures { λ r. ⌜ r ≡ vacantRow (now (m .entry)) (countOf (now (m .entry))) 0 ⌝ }
 {
-    let count = count_of(m) as usize;
-    let mut i: usize = 0;
-    while i < count {
-        if index_at(m, i) != TableIndex::FIRST + (i as u32) {
-            return i;
+    // The rows below `low` have the indexes from 62 on, and the row at `high` does not, if there is one. A row has its own only where all before it have theirs.
+    let mut low: usize = 0;
+    let mut high = count_of(m) as usize;
+    while low < high {
+        let i = low + (high - low) / 2;
+        if index_at(m, i) == TableIndex::FIRST + (i as u32) {
+            low = i + 1;
+        } else {
+            high = i;
         }
-        i += 1;
     }
-    i
+    low
 }

@@ -1,11 +1,20 @@
 // A name or a value compared with the table's text. Most have a few bytes: two words, which may overlap, take them whole.
 ghost use mathlib.Core.Path.{_≡_};
-ghost use Prim.Native.Nat.{ℕ, _+_, _≤_};
+ghost use Prim.Native.Nat.{ℕ, _+_, _-_, _≤_};
 ghost use lib.ListN.{length};
+ghost use Rattle.memory.specs.Numbers.{number};
 ghost use Rattle.memory.specs.Compare.{sameAt};
 use memory::compare::same;
 use memory::number::u32_at;
 use memory::number::u64_at;
+
+// The last four bytes of a text that ends at `end`, as one number.
+pub fn last_four(b: &[u8], end: usize) -> u32
+    requires { ⌜ (4 ≤ end) × (end ≤ length (now b)) ⌝ }
+    ensures { λ r. ⌜ r ≡ number 4 (now (b .entry)) (end - 4) ⌝ }
+{
+    u32_at(b, end - 4)
+}
 
 // Four to eight bytes.
 fn same_fours(m: &[u8], at: usize, b: &[u8]) -> bool

@@ -40,8 +40,8 @@ count-of-requires c κs = let w = known (c .before .before .before) in omega (ar
 cast-count : tie.Need-cast-count
 cast-count c = search needs
 
-rows-requires : tie.Need-rows-requires
-rows-requires c κs = let w = known (c .before .before .before .before) in (omega (arith, w .count, c .count-of .ensures), w .long)
+columns-requires : tie.Need-columns-requires
+columns-requires c κs = let w = known (c .before .before .before .before) in (omega (arith, w .count, c .count-of .ensures), w .long)
 
 held-of-requires : tie.Need-held-of-requires
 held-of-requires c κs = let w = known (c .before .before .before .before .before) in omega (arith, w .long)
@@ -91,7 +91,7 @@ dump-spec =
     line-of-requires
     count-of-requires
     cast-count
-    rows-requires
+    columns-requires
     held-of-requires
     cast-end
     add-end

@@ -85,6 +85,7 @@ insert-requires c κs =
     let room = leb-true (heldOf (a .m .now) + (length (a .name .now) + length (a .value .now) + 32)) (limitOf (a .m .now))
     (sym (u .fits2 .ensures) ∙ not-false _ (c .before .if2 .left)) in
     known k .opening _ _ _ _ e (omega (arith, w .limit, room)) (omega (arith, w .limit, w .heads, room))
+    (omega (arith, k .before .before .before .before .before .before .pre .1))
 
 same-length-4 : tie.Need-same-length-4
 same-length-4 c = search needs

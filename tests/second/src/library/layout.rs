@@ -9,19 +9,24 @@ use crate::program::encoder::{Encoder, Held};
 use crate::program::instructions::StreamList;
 use crate::program::tables::{Entry, Parts};
 
+#[cfg(test)]
+mod tests;
+
 pub const DECODER_BYTES: usize = 35_912;
 pub const ENCODER_BYTES: usize = 16_960;
 
 pub const MARKS: usize = 64;
-pub const ROWS: usize = 1_088;
-pub const ROW: usize = 16;
-pub const TEXT: usize = 3_136;
+/// The number below every index of an entry, in front of the indexes, so that the first of these has one before it too.
+pub const SENTINEL: usize = 1_088;
+pub const INDEXES: usize = 1_092;
+pub const OFFSETS: usize = 1_604;
+pub const NAMES: usize = 1_862;
+pub const STATUSES: usize = 1_990;
+pub const TEXT: usize = 2_246;
 pub const DELETES: usize = 7_232;
 pub const DELETE: usize = 76;
-pub const REFERENCES: usize = 7_232;
-pub const REFERENCE: usize = 76;
-/// Where the second horizon stands in a reference.
-pub const SECOND_HORIZON: usize = 38;
+/// The encoder's horizons of non-trailer and of trailer blocks.
+pub const HORIZONS: [usize; 2] = [7_232, 7_488];
 const LISTED: usize = 16;
 
 /// A row of the table with its text.
@@ -57,54 +62,56 @@ fn lay_front(memory: &mut [u8], role: u64, front: &Front) {
     put(memory, 8, 2, front.deletes as u64);
     memory[10..MARKS].fill(0);
     let closed = front.closed.0.iter().flatten();
-    let marks = &mut memory[MARKS..ROWS];
+    let marks = &mut memory[MARKS..SENTINEL];
     marks.fill(0xff);
     for (number, _) in closed.enumerate().filter(|(_, &closed)| closed) {
         marks[number / 8] &= !(1 << (number % 8));
     }
-    let mut offset = 0;
+    put(memory, SENTINEL, 4, 61);
+    put(memory, OFFSETS, 2, 0);
+    let mut text = Vec::new();
     for (place, row) in front.rows.iter().enumerate() {
-        let (name, value) = (&row.entry.name, &row.entry.value);
-        let at = ROWS + ROW * place;
-        put(memory, at, 4, row.index);
-        put(memory, at + 4, 2, offset as u64);
-        put(memory, at + 6, 2, name.len() as u64);
-        put(memory, at + 8, 2, value.len() as u64);
-        put(memory, at + 10, 2, row.status);
-        put(memory, at + 12, 4, 0);
-        for text in [name, value] {
-            memory[TEXT + offset..TEXT + offset + text.len()].copy_from_slice(text);
-            offset += text.len();
-        }
+        text.extend(&row.entry.name);
+        text.extend(&row.entry.value);
+        put(memory, INDEXES + 4 * place, 4, row.index);
+        put(memory, OFFSETS + 2 * (place + 1), 2, text.len() as u64);
+        put(memory, NAMES + place, 1, row.entry.name.len() as u64);
+        put(memory, STATUSES + 2 * place, 2, row.status);
     }
+    memory[TEXT..TEXT + text.len()].copy_from_slice(&text);
 }
 
-/// Points 1 to 3 of "What forms a state".
+/// Points 1 to 4 of "What forms a state".
 fn front_in(memory: &[u8], role: u64, highest: u64) -> Option<Front> {
     let (limit, held, count) = (get(memory, 2, 2), get(memory, 4, 2), get(memory, 6, 2));
     let head = get(memory, 0, 1) == role && get(memory, 1, 1) == 2 && memory[10..MARKS].iter().all(|&byte| byte == 0);
     if !head || limit > 4096 || held > 4096 || count > 128 {
         return None;
     }
+    let count = count as usize;
+    // The first of them is the sentinel.
+    let indexes: Vec<u64> = (0..=count).map(|place| get(memory, SENTINEL + 4 * place, 4)).collect();
+    let ascending = indexes.windows(2).all(|pair| pair[0] < pair[1]);
+    if indexes[0] != 61 || !ascending || indexes[count] > highest {
+        return None;
+    }
+    let offsets: Vec<u64> = (0..=count).map(|place| get(memory, OFFSETS + 2 * place, 2)).collect();
+    if offsets[0] != 0 || held != offsets[count] + 32 * count as u64 {
+        return None;
+    }
+    let text = |from: u64, length: u64| memory[TEXT + from as usize..][..length as usize].to_vec();
     let mut rows = Vec::new();
-    let (mut least, mut sum, mut offset) = (62, 0, 0);
-    for place in 0..count as usize {
-        let at = ROWS + ROW * place;
-        let (index, name, value) = (get(memory, at, 4), get(memory, at + 6, 2), get(memory, at + 8, 2));
-        sum += name + value + 32;
-        let right = least <= index && index <= highest && get(memory, at + 4, 2) == offset && get(memory, at + 12, 4) == 0;
-        // The sum is looked at here too, so that the text ends inside its 4,096 bytes.
-        if !right || name > 255 || value > 2047 || sum > held {
+    for place in 0..count {
+        let (start, end, name) = (offsets[place], offsets[place + 1], get(memory, NAMES + place, 1));
+        let value = end.checked_sub(start + name)?;
+        if end > 4096 || value > 2047 {
             return None;
         }
-        let text = &memory[TEXT + offset as usize..][..(name + value) as usize];
-        let (name, value) = text.split_at(name as usize);
-        rows.push(Row { index, entry: Entry { name: name.to_vec(), value: value.to_vec() }, status: get(memory, at + 10, 2) });
-        (least, offset) = (index + 1, offset + text.len() as u64);
+        let entry = Entry { name: text(start, name), value: text(start + name, value) };
+        rows.push(Row { index: indexes[place + 1], entry, status: get(memory, STATUSES + 2 * place, 2) });
     }
     let closed = [0, 1].map(|part| (0..4096).map(|stream| memory[MARKS + 512 * part + stream / 8] >> (stream % 8) & 1 == 0).collect());
-    let front = Front { limit, deletes: get(memory, 8, 2) as usize, closed: Parts(closed), rows };
-    (sum == held).then_some(front)
+    Some(Front { limit, deletes: get(memory, 8, 2) as usize, closed: Parts(closed), rows })
 }
 
 pub fn lay_decoder(memory: &mut [u8], decoder: &Decoder) {
@@ -127,7 +134,7 @@ pub fn lay_decoder(memory: &mut [u8], decoder: &Decoder) {
     }
 }
 
-/// Point 5 of "What forms a state".
+/// Point 6 of "What forms a state".
 fn stream_list_in(memory: &[u8], at: usize) -> Option<StreamList> {
     let (horizon, count) = (get(memory, at, 2), get(memory, at + 2, 2) as usize);
     if horizon > 4096 || count > LISTED {
@@ -167,10 +174,10 @@ pub fn lay_encoder(memory: &mut [u8], encoder: &Encoder) {
     let row = |(&index, held): (&u64, &Held)| Row { index, entry: held.entry.clone(), status: u64::from(held.deleting) };
     let rows = encoder.entries.iter().map(row).collect();
     lay_front(memory, 2, &Front { limit: encoder.limit, deletes: 0, closed: encoder.closed.clone(), rows });
-    for (&index, held) in &encoder.entries {
-        let at = REFERENCES + REFERENCE * (index - 62) as usize;
-        put(memory, at, 2, held.horizon(0));
-        put(memory, at + SECOND_HORIZON, 2, held.horizon(1));
+    for (place, held) in encoder.entries.values().enumerate() {
+        for (part, at) in HORIZONS.into_iter().enumerate() {
+            put(memory, at + 2 * place, 2, held.horizon(part));
+        }
     }
 }
 
@@ -180,9 +187,8 @@ pub fn encoder_in(memory: &[u8]) -> Option<Encoder> {
     }
     let front = front_in(memory, 2, 189)?;
     let mut entries = BTreeMap::new();
-    for row in front.rows {
-        let at = REFERENCES + REFERENCE * (row.index - 62) as usize;
-        let horizons = [get(memory, at, 2), get(memory, at + SECOND_HORIZON, 2)];
+    for (place, row) in front.rows.into_iter().enumerate() {
+        let horizons = HORIZONS.map(|at| get(memory, at + 2 * place, 2));
         if row.status > 1 || horizons.iter().any(|&horizon| horizon > 4096) {
             return None;
         }

@@ -28,7 +28,8 @@ judgement c =
     record {
       name-is = row-name _ (stands (c .before .before .before .before .before .before)) _ _ (p .0) .2;
       value-is = string-size _ _ (p .1 .0);
-      told = c .judge .ensures ∙ ap (judged _ _) (ap₂ (λ (n v : ℕ). n + v + 32) (c .before .before .before .name-length-at .ensures) (c .before .length .ensures));
+      told = c .judge .ensures ∙ ap (judged _ _) (ap₂ (λ (n v : ℕ). n + v + 32) (c .before .before .before .name-length-at .ensures .0) (c .before .length .ensures));
+      short = omega (arith, c .before .before .before .name-length-at .ensures .0, c .before .before .before .name-length-at .ensures .1);
     }
 
 name-length-at-requires : tie.Need-name-length-at-requires
@@ -52,7 +53,7 @@ judge-requires : tie.Need-judge-requires
 judge-requires c κs =
     let p = c .before .before .before .before .before .before .pre in
     let short = row-name _ (stands (c .before .before .before .before .before)) _ _ (p .1 .0) .1 in
-    (p .0 .0 .0, omega (arith, c .before .before .name-length-at .ensures, c .length .ensures, p .1 .1 .1), p .0 .1)
+    (p .0 .0 .0, omega (arith, c .before .before .name-length-at .ensures .0, c .length .ensures, p .1 .1 .1), p .0 .1)
 
 enum-known-j : tie.Need-enum-known-j
 enum-known-j c = search needs

@@ -31,6 +31,7 @@ judgement c =
       name-is = ap length (sym (name .static-name .ensures));
       value-is = string-size _ _ (c .before .before .before .before .before .before .before .before .pre .1 .0);
       told = c .judge .ensures ∙ ap (judged _ _) (ap (λ (v : ℕ). length (name .static-name .result .now) + v + 32) (c .before .length .ensures));
+      short = omega (arith, ap length (name .static-name .ensures), name-most (c .before .before .before .before .before .before .before .before .args .named .value));
     }
 
 static-text-requires : tie.Need-static-text-requires

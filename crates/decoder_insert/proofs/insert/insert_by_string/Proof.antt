@@ -26,6 +26,7 @@ judgement c =
       name-is = string-size _ _ (texts .0);
       value-is = string-size _ _ (texts .2);
       told = c .judge .ensures ∙ ap (judged _ _) (ap₂ (λ (n v : ℕ). n + v + 32) (c .before .before .length .ensures) (c .before .length2 .ensures));
+      short = texts .1;
     }
 
 length-requires : tie.Need-length-requires

@@ -7,7 +7,7 @@ use Rattle.table_laws.specs.DecoderChanges.{found}
 use Rattle.table_laws.specs.EncoderChanges.{EncoderChanges}
 use Rattle.state.specs.EncoderState.{encoderOf}
 use Rattle.encoder.proofs.Leaving.{answer-of, memory-of}
-use Rattle.encoder.proofs.Standing.{changes, row-found}
+use Rattle.encoder.proofs.Standing.{changes, long, row-found}
 use Rattle.encoder_acknowledge.proofs.Acknowledging.{freed-missing, freed-live, freed-done}
 use Rattle.encoder_acknowledge.proofs.acknowledge.free.Statement.{statement}
 use Rattle.encoder_acknowledge.proofs.acknowledge.free.Tie as tie
@@ -63,8 +63,11 @@ returns-2 c =
     let e = freed-live _ (small s) (s .before .pre .1) _ _ (s .before .args .taken) (at k) (sym (c .before .before .status-at .ensures) ∙ c .before .if1 .taken) in
     (answer-of e (c .refused2 .ensures), memory-of e refl)
 
-remove-requires : tie.Need-remove-requires
-remove-requires c κs = let k = c .before .before .before .before in stands (k .before .before .before .before .before) .removing _ _ (at k)
+take-out-requires : tie.Need-take-out-requires
+take-out-requires c κs =
+    let k = c .before .before .before .before in
+    let s = k .before .before .before .before .before in
+    (stands s .removing _ _ (at k), long _ (small s) (s .before .pre .1))
 
 done-requires : tie.Need-done-requires
 done-requires c κs = search needs
@@ -78,7 +81,7 @@ returns-3 c =
     let k = i .before .before .before in
     let s = k .before .before .before .before .before in
     let e = freed-done _ (small s) (s .before .pre .1) _ _ (s .before .args .taken) (at k) (λ z. i .if1 .left (i .before .status-at .ensures ∙ z)) in
-    (answer-of e (c .done .ensures), memory-of e (c .before .before .before .remove .ensures))
+    (answer-of e (c .done .ensures), memory-of e (c .before .before .before .take-out .ensures))
 
 pub free-spec : {M : Type 1} → statement M
 free-spec =
@@ -94,7 +97,7 @@ free-spec =
     refused-requires-2
     same-length-2
     returns-2
-    remove-requires
+    take-out-requires
     done-requires
     same-length-3
     returns-3)

@@ -18,30 +18,30 @@ row : (c : tie.After-slice-known) → RowFound (c .before .args .m .now) (c .bef
 row c = row-found _ (small c) (c .before .pre .0) _ _ (c .before .pre .1 .0)
 
 -- the horizons that are read
-nontrailer : (c : tie.After-horizon-at) → c .horizon-at .result ≡ nontrailerAt (c .before .before .before .before .before .args .m .now) (c .before .before .before .before .before .args .index .value)
-nontrailer c = c .horizon-at .ensures ∙ ap (number 2 (c .before .before .before .before .before .args .m .now)) (c .before .nontrailer-reference .ensures)
+nontrailer : (c : tie.After-horizon-at) → c .horizon-at .result ≡ nontrailerAt (c .before .before .before .before .before .args .m .now) (c .before .before .before .before .before .args .place)
+nontrailer c = c .horizon-at .ensures ∙ ap (number 2 (c .before .before .before .before .before .args .m .now)) (c .before .nontrailer-place .ensures)
 
-trailer : (c : tie.After-horizon-at2) → c .horizon-at2 .result ≡ trailerAt (c .before .before .before .before .before .before .before .before .args .m .now) (c .before .before .before .before .before .before .before .before .args .index .value)
-trailer c = c .horizon-at2 .ensures ∙ ap (number 2 (c .before .before .before .before .before .before .before .before .args .m .now)) (c .before .trailer-reference .ensures)
+trailer : (c : tie.After-horizon-at2) → c .horizon-at2 .result ≡ trailerAt (c .before .before .before .before .before .before .before .before .args .m .now) (c .before .before .before .before .before .before .before .before .args .place)
+trailer c = c .horizon-at2 .ensures ∙ ap (number 2 (c .before .before .before .before .before .before .before .before .args .m .now)) (c .before .trailer-place .ensures)
 
-nontrailer-reference-requires : tie.Need-nontrailer-reference-requires
-nontrailer-reference-requires c κs = let r = row (c .before .before) in (r .low, r .high)
+nontrailer-place-requires : tie.Need-nontrailer-place-requires
+nontrailer-place-requires c κs = omega (arith, row (c .before .before) .below)
 
 horizon-at-requires : tie.Need-horizon-at-requires
 horizon-at-requires c κs =
     let s = c .before .before .before in
-    omega (arith, c .nontrailer-reference .ensures, row s .high, long _ (small s) (s .before .pre .0))
+    omega (arith, c .nontrailer-place .ensures, row s .below, long _ (small s) (s .before .pre .0))
 
 cast-nontrailer : tie.Need-cast-nontrailer
 cast-nontrailer c = search needs
 
-trailer-reference-requires : tie.Need-trailer-reference-requires
-trailer-reference-requires c κs = let r = row (c .before .before .before .before .before) in (r .low, r .high)
+trailer-place-requires : tie.Need-trailer-place-requires
+trailer-place-requires c κs = omega (arith, row (c .before .before .before .before .before) .below)
 
 horizon-at-requires-2 : tie.Need-horizon-at-requires-2
 horizon-at-requires-2 c κs =
     let s = c .before .before .before .before .before .before in
-    omega (arith, c .trailer-reference .ensures, row s .high, long _ (small s) (s .before .pre .0))
+    omega (arith, c .trailer-place .ensures, row s .below, long _ (small s) (s .before .pre .0))
 
 cast-trailer : tie.Need-cast-trailer
 cast-trailer c = search needs
@@ -119,10 +119,10 @@ pub delete-found-spec : {M : Type 1} → statement M
 delete-found-spec =
     tie.close
     (tie.spec
-    nontrailer-reference-requires
+    nontrailer-place-requires
     horizon-at-requires
     cast-nontrailer
-    trailer-reference-requires
+    trailer-place-requires
     horizon-at-requires-2
     cast-trailer
     delete-size-requires

@@ -1,13 +1,12 @@
--- `encoder_insert::insert::enter` meets its contract: one change after the other.
+-- `encoder_insert::insert::enter` meets its contract: one change after the other, with the count from before both.
 use Prim.Native.Nat.{ℕ}
-use mathlib.Core.Path.{sym, ap, subst, _∙_}
+use mathlib.Core.Path.{sym, subst, _∙_}
 use native.Mathlib.Omega.{arith}
-use mathlib.Core.List.{List}
 use lib.ListN.{length}
 use borrow.Author.Needs.{needs}
 use Rattle.memory.specs.Bytes.{Small}
-use Rattle.table.specs.Changes.{Opening, inserted}
-use Rattle.deletes.specs.Deletes.{unreferred}
+use Rattle.table.specs.Changes.{Opening}
+use Rattle.horizons.specs.Horizons.{horizonsOpened}
 use Rattle.table_laws.proofs.Room.{room-claim}
 use Rattle.encoder.proofs.Standing.{changes, long}
 use Rattle.encoder_insert.proofs.insert.enter.Statement.{statement}
@@ -22,28 +21,43 @@ opening : (c : tie.After-slice-known)
 opening c =
     let p = c .before .pre in
     subst (λ (place : ℕ). Opening (c .before .args .m .now) place (length (c .before .args .name .now)) (length (c .before .args .value .now))) (sym (p .0 .0))
-    (changes _ (small c) (p .0 .2) .opening _ _ (p .1) (room-claim .encoder _ (p .0 .2) _ (p .1)))
+    (changes _ (small c) (p .0 .2) .opening _ _ (p .1 .0) (room-claim .encoder _ (p .0 .2) _ (p .1 .0)) (p .1 .1))
+
+count-of-requires : tie.Need-count-of-requires
+count-of-requires c κs = omega (arith, opening (c .before .before .before) .long)
+
+cast-count : tie.Need-cast-count
+cast-count c = search needs
 
 insert-requires : tie.Need-insert-requires
-insert-requires c κs = opening (c .before .before .before)
+insert-requires c κs = opening (c .before .before .before .before .before)
 
-unrefer-requires : tie.Need-unrefer-requires
-unrefer-requires c κs =
-    let s = c .before .before .before .before .before .before .before in
-    let p = s .before .pre in
-    let below = opening s .below in
-    (omega (arith, p .0 .1), omega (arith, p .0 .1, opening s .few), omega (arith, long _ (small s) (p .0 .2), c .before .before .m .given))
+open-horizons-requires : tie.Need-open-horizons-requires
+open-horizons-requires c κs =
+    let s = c .before .before .before .before .before .before .before .before .before in
+    let n = c .before .before .before .before .before .count-of .ensures in (
+      omega (arith, opening s .below),
+      omega (arith, opening s .few),
+      omega (arith, long _ (small s) (s .before .pre .0 .2), c .before .before .m .given),
+    )
 
 same-length : tie.Need-same-length
 same-length c = search needs
 
 returns : tie.Need-returns
 returns c =
-    let i = c .before .before .before .before .before .before in
-    let a = i .before .before .before .before .before .args in
-    let e = i .insert .ensures in
-    c .before .before .unrefer .ensures
-    ∙ ap (λ (t : List ℕ). unreferred t (a .index .value)) {y = inserted (a .m .now) (a .place) (a .index .value) (a .name .now) (a .value .now)} e
+    let r = c .before .before .before .before .before .before in
+    let n = r .before .before .count-of .ensures in
+    let e = r .insert .ensures in
+    c .before .before .open-horizons .ensures ∙ (λ k. horizonsOpened (e k) (c .before .before .before .before .before .before .before .before .before .before .before .before .before .args .place) (n k))
 
 pub enter-spec : {M : Type 1} → statement M
-enter-spec = tie.close (tie.spec insert-requires unrefer-requires same-length returns)
+enter-spec =
+    tie.close
+    (tie.spec
+    count-of-requires
+    cast-count
+    insert-requires
+    open-horizons-requires
+    same-length
+    returns)

@@ -117,7 +117,7 @@ enter-requires : tie.Need-enter-requires
 enter-requires c κs =
     let i = c .before .before .before .before .before .before .before .before .before .before in
     let s = i .before .before .before .before .before .before .before .before in
-    ((i .before .lowest-vacant .ensures, index i, s .before .pre .0), held s)
+    ((i .before .lowest-vacant .ensures, index i, s .before .pre .0), (held s, s .before .pre .1 .name-short))
 
 cast-done : tie.Need-cast-done
 cast-done c = search needs
@@ -158,7 +158,7 @@ enter-requires-2 : tie.Need-enter-requires-2
 enter-requires-2 c κs =
     let i = c .before .before .before .before .before .before .before .before .before in
     let s = i .before .before .before .before .before .before .before .before in
-    ((i .before .lowest-vacant .ensures, index i, s .before .pre .0), held s)
+    ((i .before .lowest-vacant .ensures, index i, s .before .pre .0), (held s, s .before .pre .1 .name-short))
 
 cast-done-2 : tie.Need-cast-done-2
 cast-done-2 c = search needs
@@ -181,7 +181,7 @@ returns-3 c =
     let s = i .before .before .before .before .before .before .before .before in
     let a = s .before .args in
     let e = fitting-done (a .m .now) (small s) (s .before .pre .0) (a .name .now) (a .value .now) (a .out .now) (v .result) (i .new .result .value) (v .ensures)
-    (index i) _ (by-index (t .before .before)) _ (index-size (t .before)) (t .if1 .left) (held s) in
+    (index i) _ (by-index (t .before .before)) _ (index-size (t .before)) (t .if1 .left) (held s) (s .before .pre .1 .name-short) in
     (answer-of e (c .done .ensures), (memory-of e (c .before .before .before .enter .ensures), output-of e (w .write-insert-index .ensures .1)))
 
 same-length-5 : tie.Need-same-length-5
@@ -199,7 +199,7 @@ returns-4 c =
     let s = i .before .before .before .before .before .before .before .before in
     let a = s .before .args in
     let e = fitting-done (a .m .now) (small s) (s .before .pre .0) (a .name .now) (a .value .now) (a .out .now) (v .result) (i .new .result .value) (v .ensures)
-    (index i) _ (by-bytes (t .before .before)) _ (text-size (t .before)) (t .if2 .left) (held s) in
+    (index i) _ (by-bytes (t .before .before)) _ (text-size (t .before)) (t .if2 .left) (held s) (s .before .pre .1 .name-short) in
     (answer-of e (c .done2 .ensures), (memory-of e (c .before .before .before .enter2 .ensures), output-of e (w .write-insert-text .ensures .1)))
 
 pub insert-fitting-spec : {M : Type 1} → statement M

@@ -17,7 +17,7 @@ use Rattle.parts.specs.Turn.{partIn}
 use Rattle.encoder_fields.specs.Refer.{enteredBy}
 use Rattle.encoder_fields.proofs.Fields.{field-fine}
 use Rattle.encoder_references.proofs.Entering.{entered-choice}
-use Rattle.encoder_passes.proofs.Writing.{choice-low, choice-fine, choice-long}
+use Rattle.encoder_passes.proofs.Writing.{choice-fine}
 use borrow.Author.Needs.{needs}
 use Rattle.encoder_passes.proofs.write.write_field.Statement.{statement}
 use Rattle.encoder_passes.proofs.write.write_field.Tie as tie
@@ -65,13 +65,7 @@ returns c =
     )
 
 enter-choice-requires : tie.Need-enter-choice-requires
-enter-choice-requires c κs =
-    let chose = c .before .before in
-    let p = start chose .pre .0 in
-    let e = chose .choose-field .ensures in (
-      (p .1, choice-long _ (small chose) (p .0) _ (fine chose) (chose .choose-field .result) e),
-      choice-low _ (small chose) (p .0) _ (fine chose) (chose .choose-field .result) e _ (p .1) (partIn (start chose .args .part)),
-    )
+enter-choice-requires c κs = let p = start (c .before .before) .pre .0 in (p .1, p .0)
 
 write-choice-requires : tie.Need-write-choice-requires
 write-choice-requires c κs =

@@ -1,8 +1,8 @@
 -- `enter_choice` meets its contract, by the cases of the choice.
 use denote.Ref.{now}
-use mathlib.Core.Path.{sym, ap, subst, _∙_}
+use mathlib.Core.Path.{sym, ap, _∙_}
 use Rattle.parts.specs.Turn.{partIn}
-use Rattle.encoder_fields.specs.Refer.{enteredChoice, InTable}
+use Rattle.encoder_fields.specs.Refer.{enteredChoice}
 use borrow.Author.Needs.{needs}
 use Rattle.encoder_references.proofs.refer.enter_choice.Statement.{statement}
 use Rattle.encoder_references.proofs.refer.enter_choice.Tie as tie
@@ -11,17 +11,13 @@ enum-known-choice : tie.Need-enum-known-choice
 enum-known-choice c = search needs
 
 enter-requires : tie.Need-enter-requires
-enter-requires c κs =
-    let start = c .before .before .before .before .before in
-    (start .pre .0 .0, subst InTable (c .before .before .choice .given .1) (start .pre .1), start .pre .0 .1)
+enter-requires c κs = search needs
 
 enum-known-choice-2 : tie.Need-enum-known-choice-2
 enum-known-choice-2 c = search needs
 
 enter-requires-2 : tie.Need-enter-requires-2
-enter-requires-2 c κs =
-    let start = c .before .before .before .before .before in
-    (start .pre .0 .0, subst InTable (c .before .before .choice2 .given .1) (start .pre .1), start .pre .0 .1)
+enter-requires-2 c κs = search needs
 
 enum-told : tie.Need-enum-told
 enum-told c = search needs

@@ -1,4 +1,4 @@
--- `table_search::place::lengths_at` meets its contract: each kind of place has its lengths by the function for it.
+-- `entry_places::place::lengths_at` meets its contract: each kind of place has its lengths by the function for it.
 use denote.Ref.{now}
 use mathlib.Core.Path.{_≡_, sym, ap, _∙_, subst}
 use Rattle.entry_places.specs.Place.{Here, InPlace, placeLengths}

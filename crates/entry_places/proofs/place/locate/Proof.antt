@@ -4,7 +4,7 @@ use Rattle.entry_places.proofs.Locating.{locate-static, locate-above}
 use Rattle.entry_places.proofs.place.locate.Statement.{statement}
 use Rattle.entry_places.proofs.place.locate.Tie as tie
 
--- `table_search::place::locate` meets its contract: the definition's test, and then what is found.
+-- `entry_places::place::locate` meets its contract: the definition's test, and then what is found.
 
 returns : tie.Need-returns
 returns c = sym (locate-static _ _ (c .before .before .before .pre .0) (c .if1 .taken))

@@ -1,4 +1,4 @@
--- `table_search::place::row_name` meets its contract: the name stands at its offset in the text.
+-- `entry_places::place::row_name` meets its contract: the name stands at its offset in the text.
 use native.Mathlib.Omega.{arith}
 use Rattle.table_search.proofs.Fields.{part-between, name-end}
 use borrow.Author.Needs.{needs}
@@ -24,10 +24,10 @@ part-result-start : tie.Need-part-result-start
 part-result-start c = search needs
 
 part-result-end : tie.Need-part-result-end
-part-result-end c = let p = c .before .before .before .pre in omega (arith, name-end _ (p .1) _ (p .0), c .before .text-at .ensures .0, c .name-length-at .ensures)
+part-result-end c = let p = c .before .before .before .pre in omega (arith, name-end _ (p .1) _ (p .0), c .before .text-at .ensures .0, c .name-length-at .ensures .0)
 
 returns : tie.Need-returns
-returns c = part-between _ _ _ _ _ (c .before .before .text-at .ensures .0) (c .before .name-length-at .ensures)
+returns c = part-between _ _ _ _ _ (c .before .before .text-at .ensures .0) (c .before .name-length-at .ensures .0)
 
 pub row-name-spec : {M : Type 1} → statement M
 row-name-spec =

@@ -1,4 +1,4 @@
--- `table_search::place::row_value` meets its contract: the value stands in the text after the name.
+-- `entry_places::place::row_value` meets its contract: the value stands in the text after the name.
 use mathlib.Core.Path.{ap₂}
 use Prim.Native.Nat.{_+_}
 use native.Mathlib.Omega.{arith}
@@ -20,7 +20,7 @@ add-start : tie.Need-add-start
 add-start c = search needs
 
 value-length-at-requires : tie.Need-value-length-at-requires
-value-length-at-requires c κs = search needs
+value-length-at-requires c κs = let p = c .before .before .before .pre in (search needs, search needs, p .1 .name _ (p .0))
 
 cast-end : tie.Need-cast-end
 cast-end c = search needs
@@ -37,10 +37,10 @@ part-result-start c = search needs
 part-result-end : tie.Need-part-result-end
 part-result-end c =
     let p = c .before .before .before .before .pre in
-    omega (arith, value-end _ (p .1) _ (p .0), c .before .before .text-at .ensures .0, c .before .name-length-at .ensures, c .value-length-at .ensures)
+    omega (arith, value-end _ (p .1) _ (p .0), c .before .before .text-at .ensures .0, c .before .name-length-at .ensures .0, c .value-length-at .ensures)
 
 returns : tie.Need-returns
-returns c = part-between _ _ _ _ _ (ap₂ _+_ (c .before .before .before .text-at .ensures .0) (c .before .before .name-length-at .ensures)) (c .before .value-length-at .ensures)
+returns c = part-between _ _ _ _ _ (ap₂ _+_ (c .before .before .before .text-at .ensures .0) (c .before .before .name-length-at .ensures .0)) (c .before .value-length-at .ensures)
 
 pub row-value-spec : {M : Type 1} → statement M
 row-value-spec =

@@ -4,7 +4,7 @@ use Rattle.entry_places.specs.Place.{InPlace, placeValue}
 use Rattle.entry_places.proofs.place.value_at.Statement.{statement}
 use Rattle.entry_places.proofs.place.value_at.Tie as tie
 
--- `table_search::place::value_at` meets its contract: each kind of place has its value by the function for it.
+-- `entry_places::place::value_at` meets its contract: each kind of place has its value by the function for it.
 
 enum-known-place : tie.Need-enum-known-place
 enum-known-place c = search needs

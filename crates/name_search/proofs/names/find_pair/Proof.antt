@@ -1,92 +1,70 @@
--- `table_search::names::find_pair` meets its contract. The loop's invariant: the row at `at` is the next, none before it has both, and the lowest with the name
--- is kept. The measure is what is left of the rows.
-use Prim.Native.Nat.{_-_}
+-- `name_search::names::find_pair` meets its contract. The loop's invariant: the lowest row with the name is that of the rows that are left.
+use Prim.Native.Nat.{_-_, _≤_}
 use mathlib.Core.Path.{_≡_, sym, _∙_}
 use mathlib.Core.Logic.{⊎-elim}
 use native.Mathlib.Omega.{arith}
-use Rattle.state.specs.Layout.{rowPlace}
-use Rattle.table_search.specs.Search.{rowOf}
-use Rattle.table_search.proofs.Fields.{row-field}
+use Rattle.state.specs.Layout.{countOf}
+use Rattle.name_search.specs.Names.{servesAt, lowestRow}
+use Rattle.name_search.proofs.LowestRow.{row-start, row-more, row-here, row-done}
 use Rattle.name_search.proofs.Serving.{other-length}
-use Rattle.name_search.proofs.Pairing.{Passed, pass-start, pass-other, pass-first, pass-later, pair-both, pair-name, pair-none}
+use Rattle.name_search.proofs.Pairing.{none-so-long, pair-none}
 use Rattle.name_search.proofs.names.find_pair.Statement.{statement}
 use Rattle.name_search.proofs.names.find_pair.Tie as tie
 
 abbrev Inv-loop : tie.InvT-loop
-Inv-loop m name value end n first₀ at₀ first at = (at ≡ rowPlace (rowOf at)) × Passed m name value (rowOf at) first
+Inv-loop m name value n long count i₀ i = (i ≤ countOf m) × (lowestRow (servesAt m name) (countOf m) 0 ≡ lowestRow (servesAt m name) (countOf m - i) i)
 
 abbrev μ-loop : tie.MeasureT-loop
-μ-loop m name value end n first₀ at₀ first at = end - at
-
-count-of-requires : tie.Need-count-of-requires Inv-loop μ-loop
-count-of-requires c κs = omega (arith, c .before .before .before .pre .long)
-
-cast-row-place : tie.Need-cast-row-place Inv-loop μ-loop
-cast-row-place c = omega arith
-
-row-place-requires : tie.Need-row-place-requires Inv-loop μ-loop
-row-place-requires c κs = omega (arith, c .before .before .before .before .pre .few)
-
-loop-holds : tie.Need-loop-holds Inv-loop μ-loop
-loop-holds c = (omega arith, pass-start _ _ _)
-
-name-length-in-requires : tie.Need-name-length-in-requires Inv-loop μ-loop
-name-length-in-requires c κs = let o = c .before .before .before .before .before .before .before .pre in omega (arith, o .few, o .long)
-
-cast-if1 : tie.Need-cast-if1 Inv-loop μ-loop
-cast-if1 c = omega arith
-
-has-name-at-requires : tie.Need-has-name-at-requires Inv-loop μ-loop
-has-name-at-requires c κs =
-    let place = c .before .before .before .loop .inv .0 in
-    let ordered = c .before .before .before .before .before .before .before .before .before .pre in
-    ((record { place = place; held = omega arith }, ordered), sym (row-field 2 6 _ _ place (c .before .name-length-in .ensures)) ∙ c .if1 .taken)
-
-has-value-at-requires : tie.Need-has-value-at-requires Inv-loop μ-loop
-has-value-at-requires c κs =
-    let ordered = c .before .before .before .before .before .before .before .before .before .before .before .pre in
-    (record { place = c .before .before .before .before .before .loop .inv .0; held = omega arith }, ordered)
-
-sub-t15 : tie.Need-sub-t15 Inv-loop μ-loop
-sub-t15 c = omega arith
+μ-loop m name value n long count i₀ i = countOf m - i
 
 returns : tie.Need-returns Inv-loop μ-loop
-returns c =
-    let name = sym (c .before .before .before .has-name-at .ensures) ∙ c .before .before .if2 .taken in
-    let value = sym (c .before .has-value-at .ensures) ∙ c .if3 .taken in
-    pair-both _ _ _ _ _ (c .before .before .before .before .before .before .before .loop .inv .1) (omega arith) name value
+returns c = pair-none _ _ _ (none-so-long _ _ (c .before .before .before .before .args .value .now) (λ k. omega (arith, c .before .before .before .shared-slice-known .given k)) (c .before .before .before .before .pre) (omega arith) _ 0 (omega arith))
 
-add-at : tie.Need-add-at Inv-loop μ-loop
-add-at c = omega (arith, c .before .before .before .before .before .before .before .before .before .pre .few)
+cast-long : tie.Need-cast-long Inv-loop μ-loop
+cast-long c = omega arith
+
+count-of-requires : tie.Need-count-of-requires Inv-loop μ-loop
+count-of-requires c κs = omega (arith, c .before .before .before .before .pre .long)
+
+cast-count : tie.Need-cast-count Inv-loop μ-loop
+cast-count c = omega arith
+
+loop-holds : tie.Need-loop-holds Inv-loop μ-loop
+loop-holds c = (omega arith, row-start _ _)
+
+name-byte-at-requires : tie.Need-name-byte-at-requires Inv-loop μ-loop
+name-byte-at-requires c κs = let o = c .before .before .before .before .before .before .before .pre in (omega (arith, o .few), omega (arith, o .long))
+
+has-name-requires : tie.Need-has-name-requires Inv-loop μ-loop
+has-name-requires c κs = ((omega arith, c .before .before .before .before .before .before .before .before .before .pre), sym (c .before .name-byte-at .ensures) ∙ c .if2 .taken)
+
+pair-from-requires : tie.Need-pair-from-requires Inv-loop μ-loop
+pair-from-requires c κs =
+    let named = sym (c .before .has-name .ensures) ∙ c .if3 .taken in
+    ((omega arith, c .before .before .before .before .before .before .before .before .before .before .before .pre), ((sym (c .before .before .before .name-byte-at .ensures) ∙ c .before .before .if2 .taken, named), c .before .before .before .before .before .loop .inv .1 ∙ row-here _ _ _ (omega arith) named))
+
+returns-2 : tie.Need-returns-2 Inv-loop μ-loop
+returns-2 c = c .pair-from .ensures
+
+add-i : tie.Need-add-i Inv-loop μ-loop
+add-i c = omega arith
 
 loop-less : tie.Need-loop-less Inv-loop μ-loop
 loop-less c = omega arith
 
 loop-again : tie.Need-loop-again Inv-loop μ-loop
-loop-again c =
-    let place = c .before .before .before .loop .inv .0 in
-    let p = c .before .before .before .loop .inv .1 in
-    let length = row-field 2 6 _ _ place (c .before .name-length-in .ensures) in
-    let ordered = c .before .before .before .before .before .before .before .before .before .pre in (
-      omega arith,
-      ⊎-elim
-          (λ w. pass-first _ _ _ _ _ p (omega arith) _ (omega arith) _ (sym (w .1 .ensures) ∙ w .2 .taken) (sym (w .3 .ensures) ∙ w .4 .left) (w .5 .taken) (w .6 ∙ place))
-          (⊎-elim
-          (λ w. pass-later _ _ _ _ _ p (omega arith) _ (omega arith) _ (sym (w .1 .ensures) ∙ w .2 .taken) (sym (w .3 .ensures) ∙ w .4 .left) (w .5 .left) (w .6))
-          (⊎-elim
-          (λ w. pass-other _ _ _ _ _ p (omega arith) _ (omega arith) _ (sym (w .1 .ensures) ∙ w .2 .left) (w .3))
-          (λ w. pass-other _ _ _ _ _ p (omega arith) _ (omega arith) _ (other-length _ ordered _ (omega arith) _ (λ e. w .0 .left (length ∙ e))) (w .1))))
-          (c .if1 .came),
-    )
-
-returns-2 : tie.Need-returns-2 Inv-loop μ-loop
-returns-2 c = pair-none _ _ _ _ _ (c .before .before .loop .inv .1) (omega arith) (c .if5 .taken)
-
-sub-t9 : tie.Need-sub-t9 Inv-loop μ-loop
-sub-t9 c = c .before .before .loop .inv .1 .place (c .if5 .left)
+loop-again c = (
+  omega arith,
+  c .before .before .before .loop .inv .1
+      ∙ row-more _ _ _ (omega arith)
+      (⊎-elim
+      (λ w. sym (w .1 .ensures) ∙ w .2 .left)
+      (λ w. other-length _ (c .before .before .before .before .before .before .before .before .before .pre) _ (omega arith) _ (λ e. w .left (c .before .name-byte-at .ensures ∙ e)))
+      (c .if2 .came)),
+)
 
 returns-3 : tie.Need-returns-3 Inv-loop μ-loop
-returns-3 c = pair-name _ _ _ _ _ (c .before .before .loop .inv .1) (omega arith) (c .if5 .left)
+returns-3 c = pair-none _ _ _ (c .before .loop .inv .1 ∙ row-done _ _ _ (omega arith))
 
 pub find-pair-spec : {M : Type 1} → statement M
 find-pair-spec =
@@ -94,19 +72,16 @@ find-pair-spec =
     (tie.spec
     Inv-loop
     μ-loop
-    count-of-requires
-    cast-row-place
-    row-place-requires
-    loop-holds
-    name-length-in-requires
-    cast-if1
-    has-name-at-requires
-    has-value-at-requires
-    sub-t15
     returns
-    add-at
+    cast-long
+    count-of-requires
+    cast-count
+    loop-holds
+    name-byte-at-requires
+    has-name-requires
+    pair-from-requires
+    returns-2
+    add-i
     loop-less
     loop-again
-    returns-2
-    sub-t9
     returns-3)

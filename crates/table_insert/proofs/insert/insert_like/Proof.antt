@@ -25,7 +25,7 @@ entry c = c .before .before .before .before .before .before .before
 opening : (c : tie.After-length) → Opening (entry c .args .m .now) (entry c .args .place) (c .before .name-length-at .result) (c .length .result)
 opening c =
     let a = entry c .args in
-    subst (λ (k : ℕ). Opening (a .m .now) (a .place) k (c .length .result)) (sym (c .before .name-length-at .ensures))
+    subst (λ (k : ℕ). Opening (a .m .now) (a .place) k (c .length .result)) (sym (c .before .name-length-at .ensures .0))
     (subst (Opening (a .m .now) (a .place) (nameLengthAt (a .m .now) (a .named))) (sym (c .length .ensures)) (entry c .pre .1 .1))
 
 -- where the two ways meet
@@ -40,7 +40,7 @@ copied c =
     let r = read c in
     let a = entry r .args in
     let w = entry r .pre .1 .0 in
-    let name = r .before .name-length-at .ensures in
+    let name = r .before .name-length-at .ensures .0 in
     let start = r .before .before .before .text-at .ensures .0 in
     ⊎-elim
     (λ way. way .5 ∙ way .2 .ensures ∙ ap (overlay (o .«open» .last .0) (o .«open» .result))
@@ -75,7 +75,7 @@ move-up-requires c κs =
     let o = c .before .before .before .before in
     let r = o .before .before in
     let w = entry r .pre .1 .0 in
-    omega (arith, r .before .before .before .text-at .ensures .0, r .before .name-length-at .ensures, w .before (c .before .if1 .taken), opening r, o .«open» .ensures .0)
+    omega (arith, r .before .before .before .text-at .ensures .0, r .before .name-length-at .ensures .0, w .before (c .before .if1 .taken), opening r, o .«open» .ensures .0)
 
 add-move-down : tie.Need-add-move-down
 add-move-down c = search needs
@@ -88,7 +88,7 @@ move-down-requires c κs =
     let o = c .before .before .before .before in
     let r = o .before .before in
     let w = entry r .pre .1 .0 in
-    omega (arith, r .before .before .before .text-at .ensures .0, r .before .name-length-at .ensures, w .behind (c .before .if1 .left), opening r, o .«open» .ensures .0)
+    omega (arith, r .before .before .before .text-at .ensures .0, r .before .name-length-at .ensures .0, w .behind (c .before .if1 .left), opening r, o .«open» .ensures .0)
 
 add-copy : tie.Need-add-copy
 add-copy c = search needs
@@ -112,7 +112,7 @@ returns c =
     let s = a .s .now in
     let name = r .before in
     entry-in m _ _ _ (nameAt m (a .named)) (stringBytes s (a .value)) (a .place) (a .index .value) (o .«open» .result) _
-    (name .name-length-at .result) (r .length .result) (name .name-length-at .ensures
+    (name .name-length-at .result) (r .length .result) (name .name-length-at .ensures .0
     ∙ sym (length-part m (textPlace + offsetAt m (a .named)) (nameLengthAt m (a .named)) (omega (arith, opening r, p .1 .0))))
     (r .length .ensures ∙ sym (string-size s (a .value) (p .0)))
     (o .«open» .ensures .0) (o .«open» .ensures .1) (copied (c .before .before .before .before)) refl (c .before .before .copy .ensures .1)

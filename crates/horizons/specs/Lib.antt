@@ -1,0 +1,2 @@
+-- The encoder's horizons in memory.
+pub mod Horizons

@@ -1,4 +1,0 @@
--- The turns of the test whether memory forms a state, and one law for each way through it.
-pub mod FormsWays
-pub mod FormsTurns
-pub mod RowStores

@@ -1,0 +1,3 @@
+-- The turns of the test whether memory forms a state, and one law for each way through it.
+pub mod FormsWays
+pub mod FormsTurns
