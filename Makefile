@@ -50,7 +50,8 @@ dist: $(LIBRARY)
 	$(MAKE) --no-print-directory install-library DESTDIR= PREFIX=target/dist/$(DIST)
 	sed -e 's,@PREFIX@,$${pcfiledir}/../..,' -e 's,@VERSION@,$(VERSION),' kolowrotan.pc.in > target/dist/$(DIST)/lib/pkgconfig/kolowrotan.pc
 	install -d target/dist/$(DIST)/docs target/dist/$(DIST)/host
-	install -m 644 docs/HOST.md docs/CLAIMS.md target/dist/$(DIST)/docs/
+	install -m 644 docs/HOST.md docs/CLAIMS.md docs/STATE.md target/dist/$(DIST)/docs/
+	install -m 644 CHANGELOG.md target/dist/$(DIST)/
 	install -m 644 host/* target/dist/$(DIST)/host/
 	sed -n '/^```c$$/,/^```$$/p' README.md | sed -e '/^```/d' > target/dist/$(DIST)/example.c
 	chmod -R u=rwX,go=rX target/dist/$(DIST)

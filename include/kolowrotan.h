@@ -19,8 +19,8 @@
  *     twice, and no block is offered again once it was answered 0. The host keeps tables apart by a number on all that is sent, or drains
  *     the link before a start (docs/HOST.md, "Starting anew"). No call can tell a late block of another table: it is decoded to the
  *     fields of another machine, and answered 0.
- *   - After a start that is refused, and after a read or an acknowledge that is refused with another answer than 2, nothing more is given
- *     to either end before both have started anew.
+ *   - After a start that is refused, after a read or an acknowledge that is refused with another answer than 2, and after a block that
+ *     the decoder refuses with 2, 3, 5, 13, 18 or 19, nothing more is given to either end before both have started anew.
  *
  * WHAT EVERY CALL KEEPS
  *
@@ -79,8 +79,8 @@ enum kolowrotan_answer {
 #define KOLOWROTAN_DECODER_LENGTH 35912
 #define KOLOWROTAN_ENCODER_LENGTH 16960
 
-/* The same as functions: a host may compare them with the header that it was compiled with. They do not tell another layout: state memory that a version up to
-   1.5.0 left is no state for this one, so a host that keeps it over an update starts both ends anew (docs/HOST.md). */
+/* The same as functions: a host may compare them with the header that it was compiled with. They do not tell another layout: state memory with an entry that
+   a version up to 1.5.0 left is answered 17 by this one, so a host that keeps it over an update starts both ends anew (docs/HOST.md). */
 size_t kolowrotan_decoder_length(void);
 size_t kolowrotan_encoder_length(void);
 
@@ -175,7 +175,7 @@ uint64_t kolowrotan_decoder_over(uint8_t *memory, size_t memory_length, uint64_t
 uint64_t kolowrotan_decoder_ended(uint8_t *memory, size_t memory_length, uint64_t stream);
 
 /*
- * Of the entries under deletion that no block can refer to any more, frees the one whose delete was read first, and writes its
+ * Of the entries under deletion whose delete names no unfinished part, frees the one whose delete was read first, and writes its
  * acknowledgement, which goes to the encoder. First told: the bytes written, 0 where no entry is ready. Call it until it writes 0
  * bytes. An entry that is ready is acknowledged within 128 collects answered 0, whatever is called between them but a start. With
  * less room than that one's acknowledgement takes the answer is 12, even if another's would fit: lend KOLOWROTAN_COLLECT_ROOM.
