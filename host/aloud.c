@@ -1,6 +1,7 @@
 #include "aloud.h"
 
 #include <stdio.h>
+#include <stdlib.h>
 
 void tell_aloud(const struct frame *frame, const struct outcome *outcome)
 {
@@ -34,7 +35,11 @@ void delete_aloud(uint32_t index)
 void report_aloud(const char *machine, uint32_t turns, uint32_t counter, uint32_t stream, struct frame *frame)
 {
     struct report report = {"", turns, counter};
-    snprintf(report.machine, sizeof report.machine, "%s", machine);
+    /* a name that is cut here would be another machine's */
+    if (sizeof report.machine <= (size_t)snprintf(report.machine, sizeof report.machine, "%s", machine)) {
+        fprintf(stderr, "host: the machine's name is too long: %s\n", machine);
+        exit(2);
+    }
     send_report(&report, stream, frame);
     printf("sender: ");
     show_frame(frame);

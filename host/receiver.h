@@ -23,7 +23,7 @@ typedef void receiver_tell(const struct frame *frame, const struct outcome *outc
 
 struct receiver {
     uint8_t table[KOLOWROTAN_DECODER_LENGTH];
-    uint32_t number; /* the table's, as the sender numbers it; 0 before the first start of the link. It must survive a reboot, too */
+    uint32_t number; /* the table's, as the sender numbers it; 0 before the first start of the link. It must survive a reboot, too; the table must not */
     struct fault fault;
     receiver_tell *tell;
     struct bytes management;            /* received and not read yet */

@@ -14,6 +14,10 @@
  *   - The buffers of one call do not overlap.
  *   - Nobody else reads or writes them while the call runs, and nobody writes the memory of a table between calls. Calls on
  *     different memories may run at the same time.
+ *   - Bytes arrive unchanged: a flipped bit of a block can name another machine's entry, and is answered 0. Where the transport has no
+ *     checksum, the host puts one on all that is sent.
+ *   - Memory that is kept in a file or a snapshot and is not byte for byte what the last call left is another table: after a restore both
+ *     ends start anew.
  *   - What was written for one table reaches no other. An end that starts anew has a new table: blocks and bytes of the one before are
  *     never given to it, and those of a table that this end has not started yet are never given to the one that it has. No byte is read
  *     twice, and no block is offered again once it was answered 0. The host keeps tables apart by a number on all that is sent, or drains
@@ -110,7 +114,7 @@ size_t kolowrotan_encoder_length(void);
          : (size_t)(list_length) + 2 * (size_t)(fields))
 #define KOLOWROTAN_BLOCK_ROOM_OF(list_length) KOLOWROTAN_BLOCK_ROOM(list_length, (size_t)(list_length) / 3)
 
-/* No management instruction that can be read takes more bytes: as many as a decoder's host keeps before it gives the link up on 2. */
+/* A buffer of so many bytes holds every management instruction that can be read: to so many bytes a read is never answered 2. */
 #define KOLOWROTAN_READ_ROOM 9228
 
 /* The parts of a message: any number of header blocks, those of interim answers before the final one, and at most one trailer block. */

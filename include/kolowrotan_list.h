@@ -2,7 +2,9 @@
  * Field lists of Kolowrotan, for hosts in C: put together with bounds, taken apart, and words for the answers.
  *
  * kolowrotan.h has the form of a list (FIELD LISTS). A host need not know it: what stands here writes and reads it, in C alone, with no
- * part of the library. A mistake that a host can make with lists is here one that loses a report and never one that shows another.
+ * part of the library. A list that failed, an answer that nobody looked at, an index taken for a length: each loses a report and never
+ * shows another. What the host owes: a result goes with the output of its own call; fields and cursor are used before that output is lent
+ * again; a list that is being put together is not copied, since both copies would write into the same memory.
  */
 #ifndef KOLOWROTAN_LIST_H
 #define KOLOWROTAN_LIST_H
