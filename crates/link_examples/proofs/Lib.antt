@@ -16,3 +16,5 @@ pub mod EverClaim
 pub mod OrderCountsClaim
 -- the bound on collects is reached
 pub mod LastClaim
+-- both parts of a stream, and the indexes of an insert
+pub mod BothPartsClaim
