@@ -1,2 +1,4 @@
 // Bytes copied from slice to slice, by words.
+#![tactic(auto)]
+
 pub mod copy;

@@ -1,0 +1,37 @@
+use Prim.Native.Nat.{ℕ, ◌-◌}
+use mathlib.Core.Path.{◌≡◌, refl, sym, ap, ◌∙◌}
+use native.Mathlib.Omega.{arith}
+use lib.ListN.{length}
+use Rattle.memory.specs.Numbers.{number_bytes}
+use Rattle.memory.proofs.Overlay.{length-overlay}
+use Rattle.columns.proofs.Steps.{lowered, lowered-above, lowered-not, change-all, change-none, change-turn}
+use Rattle.columns.proofs.column.lower.Goals as goal
+use Rattle.columns.proofs.column.lower.Goals.{then-limit-x, else-limit-x}
+
+pub loop-i-init : goal.loop-i-init
+loop-i-init c = let a = c.args in (omega arith, refl, change-all (lowered a.limit) 2 a.n a.m.now a.at)
+
+pub loop-i-preserved : goal.loop-i-preserved
+loop-i-preserved c =
+    let t = c in
+    let read = t in
+    let l = read.loop-i in
+    let a = read.args in
+    let stored = t.put_u16.ensures in
+    let old : ℕ = read.u16_at-x.result in
+    let new : t.if-limit-x.x ≡ lowered a.limit old =
+    elim t.if-limit-x.branch [ then-limit-x w ↦ lowered-above a.limit old _ w.if-limit-x.true w.x-is | else-limit-x w ↦ lowered-not a.limit old _ w.if-limit-x.false w.x-is ] in
+    let bytes = ap (number_bytes 2) (new ∙ ap (lowered a.limit) read.u16_at-x.ensures) in (
+      omega arith,
+      ap length stored ∙ simp length-overlay l.invariant.1,
+      l.invariant.2 ∙ change-turn (lowered a.limit) 2 a.n l.m a.at l.i read.loop-i-test.true _ bytes _ stored,
+    )
+
+pub shape_of-m : goal.shape_of-m
+shape_of-m c = c.loop-i.invariant.1
+
+pub returns : goal.returns
+returns c =
+    let l = c.loop-i in
+    let a = c.args in
+    sym (l.invariant.2 ∙ change-none (lowered a.limit) 2 a.n l.m a.at l.i c.loop-i-test.false)

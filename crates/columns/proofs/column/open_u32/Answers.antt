@@ -1,0 +1,11 @@
+use native.Mathlib.Omega.{arith}
+use Rattle.columns.specs.Columns.{column_opened}
+use Rattle.columns.proofs.column.open_u32.Goals as goal
+
+-- `columns::column::open_u32` meets its contract.
+pub open-requires : goal.open-requires
+open-requires c = omega arith
+
+pub returns : goal.returns
+unfolding column_opened
+returns c = cc
