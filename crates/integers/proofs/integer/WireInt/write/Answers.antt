@@ -30,13 +30,10 @@ write_groups-requires c =
     let e = int-past-prefix a.width a.top a.self.value _ c.power-full.ensures.0 c.if-value-full.false in
     record { rest_bound = omega arith; rest_in_bounds = simp length-set (omega (arith, ap length e)) }
 
-pub shape_of-out : goal.shape_of-out
-shape_of-out c = c.write_groups.auto.1.0 ∙ simp length-set
-
 pub returns : goal.returns
 returns c =
     let d = c in
     let a = d.args in
     let w = c.write_groups.ensures in
     let e = int-past-prefix a.width a.top a.self.value _ d.power-full.ensures.0 d.if-value-full.false in
-    record { value = omega (arith, w.0, ap length e); out_after = w.1 ∙ sym (ap (overlay a.out.now a.at) e) }
+    record { value = omega (arith, w.value, ap length e); out_after = w.out_after ∙ sym (ap (overlay a.out.now a.at) e) }
