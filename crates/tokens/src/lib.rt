@@ -1,4 +1,6 @@
 // The words of a line of text: where they stand, and the numbers and bytes that they say.
+#![tactic(auto)]
+
 ghost use Rattle.std.specs.Prelude.{◌≡◌, ℕ, ◌≤◌, length};
 ghost use Rattle.memory.specs.Compare.{same as alike};
 ghost use Rattle.tokens.specs.Numbers.{digit_of, number_of};

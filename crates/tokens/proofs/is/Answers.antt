@@ -1,4 +1,3 @@
--- `is` meets its contract: words of one length are compared whole.
 use mathlib.Core.Path.{◌≡◌, sym, ◌∙◌, ap}
 use mathlib.Core.List.{List}
 use Prim.Native.Nat.{ℕ}
@@ -8,23 +7,16 @@ use lib.Seq.{take_all}
 use Rattle.memory.specs.Compare.{same_at}
 use Rattle.memory.specs.Compare.{same as alike}
 use Rattle.memory.proofs.Sameness.{length-same, same_at-same}
-use borrow.Author.Rules.{rules}
-use Rattle.tokens.proofs.is.Statement.{statement}
-use Rattle.tokens.proofs.is.Tie as tie
+use Rattle.tokens.proofs.is.Goals as goal
 
+-- `is` meets its contract: words of one length are compared whole.
 whole_same : (a b : List ℕ) → length a ≡ length b → same_at (length a) a 0 b 0 ≡ alike a b
 whole_same a b h =
     same_at-same (length a) a 0 b 0 (omega arith) (omega arith)
     ∙ (ap (λ (x : List ℕ). alike x (take (length a) b)) (take_all (length a) a (omega arith)) ∙ ap (λ (x : List ℕ). alike a x) (take_all (length a) b (omega arith)))
 
-returns : tie.Need-returns
-returns c = sym (length-same _ _ c.if1.true)
+pub returns-then-word-other : goal.returns-then-word-other
+returns-then-word-other c = sym (length-same _ _ c.if-word-other.true)
 
-same-requires : tie.Need-same-requires
-same-requires c κs = search rules
-
-returns-2 : tie.Need-returns-2
-returns-2 c = c.same.ensures ∙ whole_same _ _ c.before.if1.false
-
-pub is-spec : {M : Type 1} → statement M
-is-spec = tie.close (tie.spec returns same-requires returns-2)
+pub returns : goal.returns
+returns c = c.same.ensures ∙ whole_same _ _ c.if-word-other.false
