@@ -1,2 +1,4 @@
 // The form in which a byte of a field is shown.
+#![tactic(auto)]
+
 pub mod shown;
