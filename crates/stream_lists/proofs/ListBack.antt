@@ -8,7 +8,7 @@ use mathlib.Core.List.{List, [], ◌∷◌, ◌++◌}
 use lib.ListN.{length, length-append}
 use Rattle.memory.specs.Bytes.{Has}
 use Rattle.memory.proofs.Places.{has_left, has_right}
-use Rattle.integers.specs.Integer.{value, int_wire}
+use Rattle.integers.specs.Integer.{int_wire}
 use Rattle.stream_lists.specs.StreamList.{read_delta, read_deltas, streams_from, list_of, read_list, Fits, deltas_wire, list_wire}
 use Rattle.stream_lists.specs.declared.stream_list.ListPlace.{ListPlace}
 use Rattle.stream_lists.specs.declared.stream_list.DeltaRead.TheVariants.{Stream}

@@ -1,2 +1,4 @@
 // Stream lists, read and written.
+#![tactic(auto)]
+
 pub mod stream_list;
