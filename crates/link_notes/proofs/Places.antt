@@ -7,7 +7,6 @@ use native.Mathlib.Omega.{arith}
 use lib.Dec.{ltb}
 use borrow.Author.Tests.{ltb-true, lt-ltb}
 use Rattle.memory.specs.Choice.{pick}
-use Rattle.link_notes.specs.declared.notes.Place.{Place}
 use Rattle.link_notes.specs.declared.notes.Place.TheVariants.{At, Nowhere}
 use Rattle.link_notes.specs.Notes.{place_of, cleared, pushed, added, has_sum, has_other, dropped, noted, is_noted, waits, answered, none_waits, any_sum, is_waiting}
 
