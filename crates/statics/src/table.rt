@@ -47,6 +47,7 @@ pub fn static_value(text: &[u8], index: TableIndex) -> &[u8]
 }
 
 // Where an entry stands.
+#[tactic(auto, unfolding(crate::specs::Table::place_of, crate::specs::Table::place_in, crate::specs::Table::entries))]
 pub fn static_place(index: TableIndex) -> StaticPlace
     requires { (1 ≤ index.value) × (index.value ≤ last_static) }
     ensures { result ≡ place_of index.value }
