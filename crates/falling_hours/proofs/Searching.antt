@@ -1,11 +1,10 @@
 -- The equations of `lowest_from`, one for each way through a turn.
-use mathlib.Core.Path.{◌≡◌, refl, sym, ap, ◌∙◌}
+use mathlib.Core.Path.{◌≡◌, ap, ◌∙◌}
 use mathlib.Core.Bool.{Bool, true, false}
 use mathlib.Core.List.{List}
 use Prim.Native.Nat.{ℕ, suc, ◌+◌, ◌-◌, ◌%◌, ◌≤◌, ◌<◌}
 use native.Mathlib.Omega.{arith}
 use lib.ListN.{get_or}
-use Rattle.falling_hours.specs.declared.falls.Found.{Found}
 use Rattle.falling_hours.specs.declared.falls.Found.TheVariants.{On, Nothing}
 use Rattle.falling_hours.specs.Falls.{lowest_from}
 
