@@ -1,4 +1,6 @@
 // A line of a recording (docs/RECORDINGS.md): a comment, a call with its numbers and bytes, or neither.
+#![tactic(auto)]
+
 use tokens;
 use tokens::{BytesRead, NumberRead, is, next_word};
 
@@ -6,7 +8,7 @@ use tokens::{BytesRead, NumberRead, is, next_word};
 pub const MOST_ROOM: usize = 65_536;
 
 // Which call of which end.
-#[derive(Drop)]
+#[derive(Clone, Copy)]
 pub enum Kind {
     DecoderStart,
     DecoderRead,
@@ -24,7 +26,7 @@ pub enum Kind {
 
 // A call with its numbers, in the order of the line. Its bytes stand in a slice beside it: the first ones up to the place `split`, and the
 // value of an insert from there up to the place `end`. `room` bytes of output are lent.
-#[derive(Drop)]
+#[derive(Clone, Copy)]
 pub struct Call {
     pub kind: Kind,
     pub first: u64,
