@@ -1,4 +1,6 @@
 // What a call of a recording gets of the bytes that stand there and of the output.
+#![tactic(auto)]
+
 ghost use Rattle.std.specs.Prelude.{◌≡◌, take, drop};
 ghost use Rattle.recorded_parts.specs.Lent.{lent_of};
 
