@@ -12,7 +12,7 @@ use integers::number::TableIndex;
 use name_search::names::Paired;
 use static_search::search::StaticFound;
 
-#[derive(Drop)]
+#[derive(Clone, Copy)]
 pub enum Choice {
     // Name and value by index.
     Indexed(TableIndex),

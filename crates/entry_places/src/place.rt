@@ -12,7 +12,7 @@ use statics::table::{LAST, static_name, static_place, static_value};
 use table_search::find::{Found, find};
 
 // Where an entry stands: in the static table, or in a row of the header table.
-#[derive(Drop)]
+#[derive(Clone, Copy)]
 pub enum EntryPlace {
     Static(TableIndex),
     Dynamic(usize),

@@ -6,7 +6,7 @@ use crate::falls::Fall;
 
 // The latest report of a machine, by the decoder's table and the stream; the most tenths of an hour in this table, and the most in earlier
 // ones, 0 where there is none.
-#[derive(Drop)]
+#[derive(Clone, Copy)]
 pub struct Standing {
     pub table: u64,
     pub stream: u64,

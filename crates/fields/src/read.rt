@@ -11,14 +11,14 @@ use wire::text::{NAME_LIMIT, VALUE_LIMIT};
 pub const GROUP: usize = WireInt::GROUP as usize;
 
 // Where a name or a value of the list stands.
-#[derive(Drop)]
+#[derive(Clone, Copy)]
 pub struct TextPlace {
     pub start: usize,
     pub length: usize,
 }
 
 // A field as it stands in the list.
-#[derive(Drop)]
+#[derive(Clone, Copy)]
 pub struct FieldPlace {
     pub flag: u8,
     pub name: TextPlace,

@@ -16,7 +16,7 @@ use state::kept::{
 use state::layout::{NONTRAILER_MARKS, TRAILER_MARKS};
 
 // The lowest stream with a named part that is unfinished, if there is one.
-#[derive(Drop)]
+#[derive(Clone, Copy)]
 pub enum Lowest {
     Stream(StreamNumber),
     Nothing,

@@ -5,7 +5,7 @@ ghost use Rattle.integers.specs.Integer.{largest, last_stream};
 use crate::integer::WireInt;
 
 // A message stream, 0 to 4,095.
-#[derive(Drop)]
+#[derive(Clone, Copy)]
 pub struct StreamNumber {
     pub value: u16,
 }
@@ -22,7 +22,7 @@ impl StreamNumber {
 }
 
 // An index of the static table, 1 to 61, or of the header table, 62 to 2^27 - 1.
-#[derive(Drop)]
+#[derive(Clone, Copy)]
 pub struct TableIndex {
     pub value: u32,
 }

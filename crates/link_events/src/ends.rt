@@ -6,13 +6,13 @@ use crate::events::{Event, Role, Side, is_faulty, refusal_breaks};
 
 // The number of an end's table, 0 before its first start that is done, and the line at which the link broke first at this end since, 0 where
 // it did not.
-#[derive(Drop)]
+#[derive(Clone, Copy)]
 pub struct End {
     pub table: u64,
     pub broken: u64,
 }
 
-#[derive(Drop)]
+#[derive(Clone, Copy)]
 pub struct Ends {
     pub decoder: End,
     pub encoder: End,

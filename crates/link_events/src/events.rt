@@ -6,14 +6,14 @@ use integers::answer::{BAD_PACKING, DONE, NOT_ALLOWED, PADDED, TOO_LARGE, TOO_LO
 use recording::Kind;
 
 // Which end a call is one of.
-#[derive(Drop)]
+#[derive(Clone, Copy)]
 pub enum Side {
     Decoder,
     Encoder,
 }
 
 // What a call is to the link: a start, a read of the bytes that the other end wrote, or neither.
-#[derive(Drop)]
+#[derive(Clone, Copy)]
 pub enum Role {
     Start,
     Read,
@@ -22,7 +22,7 @@ pub enum Role {
 
 // What became of a call: nothing that is told, a start that was done, bytes left over by a read, and how many, a read cut short, or a
 // refusal.
-#[derive(Drop)]
+#[derive(Clone, Copy)]
 pub enum Event {
     Quiet,
     Started,

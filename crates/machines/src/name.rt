@@ -12,7 +12,7 @@ const CHARACTER: u64 = 256;
 
 const SEVEN: u64 = 72_057_594_037_927_936;
 
-#[derive(Drop)]
+#[derive(Clone, Copy)]
 pub struct Name {
     pub first: u64,
     pub rest: u64,

@@ -11,7 +11,7 @@ use marks::mark::is_set;
 use state::layout::{NONTRAILER_MARKS, TRAILER_MARKS};
 
 // The two parts of a stream.
-#[derive(Drop)]
+#[derive(Clone, Copy)]
 pub enum Part {
     Nontrailer,
     Trailer,

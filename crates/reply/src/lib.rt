@@ -5,7 +5,7 @@ ghost use Rattle.reply.specs.Reply.{answer_of, joined, Narrow};
 
 use integers::answer::DONE;
 
-#[derive(Drop)]
+#[derive(Clone, Copy)]
 pub struct Reply {
     pub number: u8,
     pub first: u32,

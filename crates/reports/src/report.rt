@@ -22,7 +22,7 @@ const MOST: u64 = 65_535;
 const TURN: u32 = 65_536;
 
 // The fields of a report.
-#[derive(Drop)]
+#[derive(Clone, Copy)]
 pub enum Named {
     Machine,
     Hours,

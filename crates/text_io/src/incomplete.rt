@@ -1,7 +1,7 @@
 // That a run is not complete: the line at which it ended, and why.
 use crate::print::{Text, byte, number, words, write_to};
 
-#[derive(Drop)]
+#[derive(Clone, Copy)]
 pub enum Why {
     NotOpened,
     NotRead,

@@ -6,7 +6,7 @@ use tokens::hex::BASE;
 const MOST_DIGITS: usize = 20;
 
 // How many bytes of the lent buffer are in use, and whether a write has failed so far. Each function answers both as they are then.
-#[derive(Drop)]
+#[derive(Clone, Copy)]
 pub struct Text {
     pub used: usize,
     pub lost: bool,

@@ -16,7 +16,7 @@ use transcript_log::tally::Count;
 const TRAILER: u64 = 1;
 
 // Which block was offered, and at which line.
-#[derive(Drop)]
+#[derive(Clone, Copy)]
 pub struct Offer {
     pub line: u64,
     pub stream: u64,

@@ -23,7 +23,7 @@ pub enum Count {
     NotKept,
 }
 
-#[derive(Drop)]
+#[derive(Clone, Copy)]
 pub struct Tally {
     pub counts: [u64; COUNTS],
 }

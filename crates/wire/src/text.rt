@@ -22,7 +22,7 @@ pub const H_BIT: u8 = 128;
 
 // Where a string stands: its first byte after the length, how many bytes it takes there, whether these are packed, and how many bytes it has.
 // Its length and its bytes are reached through the two methods alone.
-#[derive(Drop)]
+#[derive(Clone, Copy)]
 pub struct StringPlace {
     pub start: usize,
     pub size: usize,
