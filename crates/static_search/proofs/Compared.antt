@@ -1,6 +1,5 @@
 -- The entries that are compared: the candidate has a name of the right length, and the run of an entry is compared for its name.
-use mathlib.Core.Path.{◌≡◌, refl, sym, ap, subst, ◌∙◌}
-use mathlib.Core.Bool.{true}
+use mathlib.Core.Path.{◌≡◌, refl, sym, subst}
 use Prim.Native.Nat.{ℕ, zero, suc, ◌+◌, ◌-◌, ◌≤◌, ◌<◌}
 use native.Mathlib.Nat.{add-zero}
 use native.Mathlib.Omega.{arith}
@@ -12,7 +11,7 @@ use Rattle.integers.specs.declared.number.TableIndex.{TableIndex}
 use Rattle.statics.specs.Table.{static_name}
 use Rattle.static_search.specs.Search.{has_name, find_name}
 use Rattle.static_search.specs.Hash.{candidate_of, last_of}
-use Rattle.static_search.specs.Compared.{indexes_from, candidates, compared_name, with_run, compared_both}
+use Rattle.static_search.specs.Compared.{indexes_from, candidates, compared_name, compared_both}
 use Rattle.static_search.specs.declared.search.StaticFound.{StaticFound}
 use Rattle.static_search.specs.declared.search.StaticFound.TheVariants.{At, Nothing}
 use Rattle.static_search.proofs.Finding.{name-has}

@@ -46,7 +46,7 @@ not_static name value e = go (find_both name value) refl
 
 -- ---- the arms of a `match`: the entries with a value, from the last arm to the first
 
-abbrev valued : List ℕ
+abbrev pub valued : List ℕ
 valued = 16 ∷ 14 ∷ 13 ∷ 12 ∷ 11 ∷ 10 ∷ 9 ∷ 8 ∷ 7 ∷ 6 ∷ 5 ∷ 4 ∷ 3 ∷ 2 ∷ []
 
 abbrev is_empty : List ℕ → Bool

@@ -114,5 +114,5 @@ module _ (a b : List ℕ) (s : Small a) (t : Small b) where
         ∙ same-part a 0 (length b) a b (ap (part a 0) (sym l) ∙ part-all a) (omega arith) refl
 
     -- the same, of ends that a function has
-    pub same_ends : {x y : Ends} → x ≡ ends_of a → y ≡ ends_of b → same_ends x y ≡ same a b
-    same_ends e d = ap₂ same_ends e d ∙ ends-decide
+    pub ends-same : {x y : Ends} → x ≡ ends_of a → y ≡ ends_of b → same_ends x y ≡ same a b
+    ends-same e d = ap₂ same_ends e d ∙ ends-decide

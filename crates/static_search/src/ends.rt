@@ -35,6 +35,7 @@ pub fn ends_of(b: &[u8]) -> Ends
 }
 
 // The ends of the name of an entry.
+#[tactic(auto, unfolding(crate::specs::Ends::ends_of, crate::specs::Ends::width_of, memory::specs::Numbers::number, statics::specs::Table::entry_at, statics::specs::Table::entries))]
 pub fn name_ends(index: TableIndex) -> Ends
     requires { (1 ≤ index.value) × (index.value ≤ last_static) }
     ensures { result ≡ ends_of (static_name index.value) }
@@ -106,6 +107,7 @@ pub fn name_ends(index: TableIndex) -> Ends
 }
 
 // The ends of the value of an entry. Most values are empty.
+#[tactic(auto, unfolding(crate::specs::Ends::ends_of, crate::specs::Ends::width_of, memory::specs::Numbers::number, statics::specs::Table::entry_at, statics::specs::Table::entries))]
 pub fn value_ends(index: TableIndex) -> Ends
     requires { (1 ≤ index.value) × (index.value ≤ last_static) }
     ensures { result ≡ ends_of (static_value index.value) }

@@ -47,6 +47,7 @@ pub fn hashed_entry(hash: u32) -> Hashed
     }
 }
 
+#[tactic(auto, unfolding(crate::specs::Hash::stored_of, crate::specs::Hash::hashed_of, crate::specs::Hash::hash_of, crate::specs::Search::lowest_static, statics::specs::Table::entry_at, statics::specs::Table::entries))]
 fn stored_entry(hash: u32) -> u32
     ensures { result ≡ stored_of hash }
 {
