@@ -1,14 +1,27 @@
 // The files that a program is run on.
+use crate::source::Source;
+use std::env::Env;
+use std::{fs, str};
 
-// Opens the file that argument `i` names, `-` being the standard input, and answers its descriptor; -1 where that cannot be done.
-pub fn open_argument(i: usize) -> i32 {
+// Opens the file that argument `i` names, `-` being the standard input; nothing where that cannot be done.
+pub fn open_argument(rt: &HostRuntime, i: usize) -> Option<Source> {
     let mut path = io::buffer();
-    let n = os::arg(i, &mut path);
-    if os::errno() != 0 {
-        return -1;
-    }
+    let Ok(n) = rt.arg(i, &mut path) else {
+        return None;
+    };
     if n == 1 && path[0] == b'-' {
-        return libc::STDIN_FILENO;
+        return Some(Source::Input(rt.stdin()));
     }
-    os::open_read(&path[..n])
+    open_read(rt, &path[..n])
+}
+
+// Opens the file with this path for reading; nothing where that cannot be done, as where the path is no UTF-8.
+pub fn open_read(rt: &HostRuntime, path: &[u8]) -> Option<Source> {
+    let Ok(text) = str::from_utf8(path) else {
+        return None;
+    };
+    match fs::open(rt, text) {
+        Ok(file) => Some(Source::File(file)),
+        Err(_) => None,
+    }
 }

@@ -1,5 +1,6 @@
 // That a run is not complete: the line at which it ended, and why.
-use crate::print::{Text, byte, number, words, write_to};
+use crate::print::{Text, byte, number, words, write_out};
+use crate::stream::Stream;
 
 #[derive(Clone, Copy)]
 pub enum Why {
@@ -8,15 +9,15 @@ pub enum Why {
     NotWritten,
 }
 
-// Writes to this descriptor that the run ended at this line, and answers whether that was written.
-pub fn incomplete(fd: i32, line: u64, why: Why) -> bool {
+// Writes to this stream that the run ended at this line, and answers whether that was written.
+pub fn incomplete(to: Stream, line: u64, why: Why) -> bool {
     let mut out = io::buffer();
-    let a = words(&mut out, Text::new(), b"INCOMPLETE at line ");
+    let a = words(&mut out, Text::new(to), b"INCOMPLETE at line ");
     let b = number(&mut out, a, line);
     let c = words(&mut out, b, b": ");
     let d = reason(&mut out, c, why);
     let e = byte(&mut out, d, b'\n');
-    write_to(fd, &out, e)
+    write_out(&out, e)
 }
 
 fn reason(out: &mut [u8], t: Text, why: Why) -> Text {

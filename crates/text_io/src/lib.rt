@@ -1,5 +1,9 @@
-// Text read line by line and written in large pieces, over the kit's `io` and `os`: what the programs over recordings share.
+// Text read line by line and written in large pieces, over `std`: what the programs over recordings share.
+#![tactic(auto)]
+
 pub mod files;
 pub mod incomplete;
 pub mod lines;
 pub mod print;
+pub mod source;
+pub mod stream;

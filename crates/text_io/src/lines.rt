@@ -2,7 +2,9 @@
 ghost use Rattle.std.specs.Prelude.{ℕ, ◌-◌, ◌≤◌, length};
 ghost use Rattle.text_io.specs.Lines.{Inside, Placed};
 
+use crate::source::Source;
 use memory::copy::move_down;
+use std::io::Read;
 use tokens::hex::line_end;
 
 // What of the buffer is still to be read: the bytes from `from` up to `filled`.
@@ -38,7 +40,7 @@ impl Reader {
 }
 
 // The next line. Each turn brings at least a byte, so that the buffer is full at last.
-pub fn next_line(fd: i32, buf: &mut [u8], r: Reader) -> Next
+pub fn next_line(source: &mut Source, buf: &mut [u8], r: Reader) -> Next
     requires { Inside (length buf.old) r }
     ensures { Placed (length buf.new) result }
 {
@@ -58,11 +60,11 @@ pub fn next_line(fd: i32, buf: &mut [u8], r: Reader) -> Next
         }
         let rest = filled - from;
         if rest == buf.len() {
-            return pass_over(fd, buf);
+            return pass_over(source, buf);
         }
         move_down(buf, 0, from, rest);
         from = 0;
-        let got = read_behind(fd, buf, rest);
+        let got = read_behind(source, buf, rest);
         if got.failed {
             return Next::Failed;
         }
@@ -78,25 +80,29 @@ pub fn next_line(fd: i32, buf: &mut [u8], r: Reader) -> Next
 }
 
 // Reads once, behind the first `n` bytes. A read that a signal interrupts counts as failed.
-fn read_behind(fd: i32, buf: &mut [u8], n: usize) -> Got
+fn read_behind(source: &mut Source, buf: &mut [u8], n: usize) -> Got
     requires { n ≤ length buf.old }
     ensures { (n ≤ result.filled) × (result.filled ≤ length buf.new) }
 {
-    let room = &mut buf[n..];
-    let got = libc::read(fd, room);
-    Got {
-        filled: n + io::count(got, room),
-        failed: got < 0,
+    match source.read(&mut buf[n..]) {
+        Ok(count) => Got {
+            filled: n + count,
+            failed: false,
+        },
+        Err(_) => Got {
+            filled: n,
+            failed: true,
+        },
     }
 }
 
 // Passes over what is left of a line. Nothing says that a file ends, so the turns are counted down, from a number that no run uses up.
-fn pass_over(fd: i32, buf: &mut [u8]) -> Next
+fn pass_over(source: &mut Source, buf: &mut [u8]) -> Next
     ensures { Placed (length buf.new) result }
 {
     let mut turns = u64::MAX;
     while 0 < turns {
-        let got = read_behind(fd, buf, 0);
+        let got = read_behind(source, buf, 0);
         if got.failed {
             return Next::Failed;
         }

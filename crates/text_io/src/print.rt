@@ -1,22 +1,36 @@
-// Text for the standard output, gathered in a lent buffer and written when that is full. A count of used bytes above the buffer's length
-// counts as a full buffer.
+// Text for a stream, gathered in a lent buffer and written when that is full. A count of used bytes above the buffer's length counts as a full
+// buffer.
+use crate::stream::Stream;
 use tokens::hex::BASE;
 
 // How many decimal digits a number of 64 bits has at most.
 const MOST_DIGITS: usize = 20;
 
-// How many bytes of the lent buffer are in use, and whether a write has failed so far. Each function answers both as they are then.
+// How many bytes of the lent buffer are in use, whether a write has failed so far, and where the text goes. Each function answers all three as
+// they are then.
 #[derive(Clone, Copy)]
 pub struct Text {
     pub used: usize,
     pub lost: bool,
+    pub to: Stream,
 }
 
 impl Text {
-    pub fn new() -> Text {
+    // No text yet.
+    pub fn new(to: Stream) -> Text {
         Text {
             used: 0,
             lost: false,
+            to,
+        }
+    }
+
+    // Nothing of it is in use, and a write has failed.
+    pub fn lost(to: Stream) -> Text {
+        Text {
+            used: 0,
+            lost: true,
+            to,
         }
     }
 }
@@ -28,19 +42,18 @@ pub fn byte(out: &mut [u8], t: Text, c: u8) -> Text {
         return Text {
             used: n + 1,
             lost: t.lost,
+            to: t.to,
         };
     }
     let emptied = flush(out, t);
     if out.len() == 0 {
-        return Text {
-            used: 0,
-            lost: true,
-        };
+        return Text::lost(t.to);
     }
     out[0] = c;
     Text {
         used: 1,
         lost: emptied.lost,
+        to: t.to,
     }
 }
 
@@ -87,25 +100,23 @@ pub fn bytes(out: &mut [u8], t: Text, s: &[u8]) -> Text {
     k
 }
 
-// Writes what is gathered to this descriptor, and answers whether all of it was written.
-pub fn write_to(fd: i32, out: &[u8], t: Text) -> bool {
+// Writes what is gathered, and answers whether all of it was written.
+pub fn write_out(out: &[u8], t: Text) -> bool {
     let n = t.used;
     if n < out.len() {
-        return io::write_all(fd, &out[..n]);
+        return t.to.write(&out[..n]);
     }
-    io::write_all(fd, out)
+    t.to.write(out)
 }
 
-// Writes what is gathered to the standard output.
+// Writes what is gathered; nothing of the buffer is in use then.
 pub fn flush(out: &[u8], t: Text) -> Text {
-    if write_to(libc::STDOUT_FILENO, out, t) {
+    if write_out(out, t) {
         return Text {
             used: 0,
             lost: t.lost,
+            to: t.to,
         };
     }
-    Text {
-        used: 0,
-        lost: true,
-    }
+    Text::lost(t.to)
 }

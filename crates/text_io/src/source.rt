@@ -1,0 +1,19 @@
+// What lines are read from.
+use std::fs::File;
+use std::io::{Read, Result, Stdin};
+
+#[derive(Drop)]
+pub enum Source {
+    Input(Stdin),
+    File(File),
+}
+
+// One read, which fails where a signal interrupts it.
+impl Read for Source {
+    fn read(&mut self, buf: &mut [u8]) -> Result<usize> {
+        match self {
+            Source::Input(stdin) => stdin.read(buf),
+            Source::File(file) => file.read(buf),
+        }
+    }
+}
