@@ -11,8 +11,7 @@ use decoder_ended::over::over;
 use decoder_enquiry::enquiry::enquire;
 use decoder_read::read::read;
 
-#[unsafe(no_mangle)]
-pub extern "C" fn kolowrotan_decoder_start(memory: &mut [u8], limit: u64) -> u64
+pub fn kolowrotan_decoder_start(memory: &mut [u8], limit: u64) -> u64
     ensures value { result ≡ joined (start_call memory.old limit).answer }
     ensures memory_after { memory.new ≡ (start_call memory.old limit).memory }
 {
@@ -20,8 +19,7 @@ pub extern "C" fn kolowrotan_decoder_start(memory: &mut [u8], limit: u64) -> u64
     r.join()
 }
 
-#[unsafe(no_mangle)]
-pub extern "C" fn kolowrotan_decoder_read(memory: &mut [u8], bytes: &[u8]) -> u64
+pub fn kolowrotan_decoder_read(memory: &mut [u8], bytes: &[u8]) -> u64
     ensures value { result ≡ joined (read_call memory.old bytes.now).answer }
     ensures memory_after { memory.new ≡ (read_call memory.old bytes.now).memory }
 {
@@ -29,8 +27,7 @@ pub extern "C" fn kolowrotan_decoder_read(memory: &mut [u8], bytes: &[u8]) -> u6
     r.join()
 }
 
-#[unsafe(no_mangle)]
-pub extern "C" fn kolowrotan_decoder_block(
+pub fn kolowrotan_decoder_block(
     memory: &mut [u8],
     stream: u64,
     part: u64,
@@ -45,8 +42,7 @@ pub extern "C" fn kolowrotan_decoder_block(
     r.join()
 }
 
-#[unsafe(no_mangle)]
-pub extern "C" fn kolowrotan_decoder_over(memory: &mut [u8], stream: u64) -> u64
+pub fn kolowrotan_decoder_over(memory: &mut [u8], stream: u64) -> u64
     ensures value { result ≡ joined (over_call memory.old stream).answer }
     ensures memory_after { memory.new ≡ (over_call memory.old stream).memory }
 {
@@ -54,8 +50,7 @@ pub extern "C" fn kolowrotan_decoder_over(memory: &mut [u8], stream: u64) -> u64
     r.join()
 }
 
-#[unsafe(no_mangle)]
-pub extern "C" fn kolowrotan_decoder_ended(memory: &mut [u8], stream: u64) -> u64
+pub fn kolowrotan_decoder_ended(memory: &mut [u8], stream: u64) -> u64
     ensures value { result ≡ joined (ended_call memory.old stream).answer }
     ensures memory_after { memory.new ≡ (ended_call memory.old stream).memory }
 {
@@ -63,16 +58,14 @@ pub extern "C" fn kolowrotan_decoder_ended(memory: &mut [u8], stream: u64) -> u6
     r.join()
 }
 
-#[unsafe(no_mangle)]
-pub extern "C" fn kolowrotan_decoder_hold(memory: &[u8], index: u64) -> u64
+pub fn kolowrotan_decoder_hold(memory: &[u8], index: u64) -> u64
     ensures { result ≡ joined (hold_call memory.now index).answer }
 {
     let r = enquire(memory, index);
     r.join()
 }
 
-#[unsafe(no_mangle)]
-pub extern "C" fn kolowrotan_decoder_collect(memory: &mut [u8], output: &mut [u8]) -> u64
+pub fn kolowrotan_decoder_collect(memory: &mut [u8], output: &mut [u8]) -> u64
     ensures value { result ≡ joined (collect_call memory.old output.old).answer }
     ensures memory_after { memory.new ≡ (collect_call memory.old output.old).memory }
     ensures output_after { output.new ≡ (collect_call memory.old output.old).output }

@@ -9,8 +9,7 @@ use encoder_block::block::block;
 use encoder_delete::delete::delete;
 use encoder_insert::insert::insert;
 
-#[unsafe(no_mangle)]
-pub extern "C" fn kolowrotan_encoder_start(memory: &mut [u8], limit: u64) -> u64
+pub fn kolowrotan_encoder_start(memory: &mut [u8], limit: u64) -> u64
     ensures value { result ≡ joined (start_call memory.old limit).answer }
     ensures memory_after { memory.new ≡ (start_call memory.old limit).memory }
 {
@@ -18,8 +17,7 @@ pub extern "C" fn kolowrotan_encoder_start(memory: &mut [u8], limit: u64) -> u64
     r.join()
 }
 
-#[unsafe(no_mangle)]
-pub extern "C" fn kolowrotan_encoder_insert(
+pub fn kolowrotan_encoder_insert(
     memory: &mut [u8],
     name: &[u8],
     value: &[u8],
@@ -33,8 +31,7 @@ pub extern "C" fn kolowrotan_encoder_insert(
     r.join()
 }
 
-#[unsafe(no_mangle)]
-pub extern "C" fn kolowrotan_encoder_delete(memory: &mut [u8], index: u64, output: &mut [u8]) -> u64
+pub fn kolowrotan_encoder_delete(memory: &mut [u8], index: u64, output: &mut [u8]) -> u64
     ensures value { result ≡ joined (delete_call memory.old index output.old).answer }
     ensures memory_after { memory.new ≡ (delete_call memory.old index output.old).memory }
     ensures output_after { output.new ≡ (delete_call memory.old index output.old).output }
@@ -43,8 +40,7 @@ pub extern "C" fn kolowrotan_encoder_delete(memory: &mut [u8], index: u64, outpu
     r.join()
 }
 
-#[unsafe(no_mangle)]
-pub extern "C" fn kolowrotan_encoder_block(
+pub fn kolowrotan_encoder_block(
     memory: &mut [u8],
     stream: u64,
     part: u64,
@@ -59,8 +55,7 @@ pub extern "C" fn kolowrotan_encoder_block(
     r.join()
 }
 
-#[unsafe(no_mangle)]
-pub extern "C" fn kolowrotan_encoder_acknowledge(memory: &mut [u8], bytes: &[u8]) -> u64
+pub fn kolowrotan_encoder_acknowledge(memory: &mut [u8], bytes: &[u8]) -> u64
     ensures value { result ≡ joined (acknowledge_call memory.old bytes.now).answer }
     ensures memory_after { memory.new ≡ (acknowledge_call memory.old bytes.now).memory }
 {

@@ -4,15 +4,13 @@ ghost use Rattle.state.specs.Layout.{decoder_length, encoder_length};
 
 use state::layout::{DECODER_LENGTH, ENCODER_LENGTH};
 
-#[unsafe(no_mangle)]
-pub extern "C" fn kolowrotan_decoder_length() -> usize
+pub fn kolowrotan_decoder_length() -> usize
     ensures { result ≡ decoder_length }
 {
     DECODER_LENGTH
 }
 
-#[unsafe(no_mangle)]
-pub extern "C" fn kolowrotan_encoder_length() -> usize
+pub fn kolowrotan_encoder_length() -> usize
     ensures { result ≡ encoder_length }
 {
     ENCODER_LENGTH
