@@ -1,3 +1,5 @@
 // Packed strings unpacked: the bits that wait, and the bytes that the codes in them say.
+#![tactic(auto)]
+
 pub mod bits;
 pub mod unpack;

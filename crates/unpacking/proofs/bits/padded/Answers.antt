@@ -1,4 +1,3 @@
--- `unpacking::bits::padded` meets its contract: at most seven bits, and as a number all ones.
 use Prim.Native.Nat.{ℕ, ◌+◌, ◌-◌, ◌*◌, ◌/◌, ◌%◌, ◌^◌, ◌≤◌, ◌<◌}
 use mathlib.Core.Path.{◌≡◌, sym, ap, ap₂, ◌∙◌}
 use native.Mathlib.Omega.{arith}
@@ -10,10 +9,9 @@ use Rattle.memory.proofs.Order.{either, not-both}
 use Rattle.huffman.specs.Packing.{padding}
 use Rattle.unpacking.specs.Waiting.{highest}
 use Rattle.unpacking.proofs.Highest.{padded-long, padded-true, padded-false}
-use borrow.Author.Rules.{rules}
-use Rattle.unpacking.proofs.bits.padded.Statement.{statement}
-use Rattle.unpacking.proofs.bits.padded.Tie as tie
+use Rattle.unpacking.proofs.bits.padded.Goals as goal
 
+-- `unpacking::bits::padded` meets its contract: at most seven bits, and as a number all ones.
 full : (n : ℕ) → n < 64 → 1 * 2 ^ n % 2 ^ 64 ≡ 2 ^ n
 full n h = ap (λ (x : ℕ). x % 2 ^ 64) (one-mul (2 ^ n)) ∙ mod-eq_of_lt (pow-lt {i = n} {j = 64} h)
 
@@ -27,26 +25,14 @@ test n w h b =
     either (eqb x y) (λ t. t ∙ sym (padded-true n w h b (eqb-true x y t)))
     (λ t. t ∙ sym (padded-false n w h b (λ e. not-both (eqb x y) (eq-eqb x y e) t)))
 
-returns : tie.Need-returns
-returns c = sym (padded-long c.before.args.n c.before.args.w c.if1.true)
+pub returns-then-n-gt7 : goal.returns-then-n-gt7
+returns-then-n-gt7 c = sym (padded-long c.args.n c.args.w c.if-n-gt7.true)
 
-shl-full : tie.Need-overflow-shl-full
-shl-full c = search rules
+pub overflow_sub-result-2 : goal.overflow_sub-result-2
+overflow_sub-result-2 c = let n = c.args.n in omega (arith, full n c.requires, pow_pos n)
 
-sub-result : tie.Need-overflow-sub-result
-sub-result c = search rules
-
-shr-result : tie.Need-overflow-shr-result
-shr-result c = search rules
-
-sub-result-2 : tie.Need-overflow-sub-result-2
-sub-result-2 c = let n = c.before.args.n in omega (arith, full n c.before.requires, pow_pos n)
-
-returns-2 : tie.Need-returns-2
-returns-2 c =
-    let n = c.before.args.n in
-    let w = c.before.args.w in
-    ap₂ (λ (x y : ℕ). eqb x (y - 1)) (high n w c.if1.false) (full n c.before.requires) ∙ test n w (omega arith) (omega arith)
-
-pub padded-spec : {M : Type 1} → statement M
-padded-spec = tie.close (tie.spec returns shl-full sub-result shr-result sub-result-2 returns-2)
+pub returns : goal.returns
+returns c =
+    let n = c.args.n in
+    let w = c.args.w in
+    ap₂ (λ (x y : ℕ). eqb x (y - 1)) (high n w c.if-n-gt7.false) (full n c.requires) ∙ test n w (omega arith) (omega arith)
