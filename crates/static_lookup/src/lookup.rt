@@ -19,6 +19,7 @@ use statics::table::{static_place, static_text};
 const TWO_WORDS: usize = 16;
 
 // Do both ends agree?
+#[tactic(auto, unfolding(static_search::specs::Ends::same_ends))]
 fn same_ends(a: Ends, b: Ends) -> bool
     ensures { result ≡ same_ends a b }
 {
@@ -88,6 +89,7 @@ pub fn find_name(name: &[u8]) -> StaticFound
 }
 
 // The last entry with the name of this one, which is the lowest with it: only four names occur more than once.
+#[tactic(auto, unfolding(static_search::specs::Hash::last_of))]
 fn last_of(index: TableIndex) -> TableIndex
     ensures { result ≡ record { value = last_of index.value } }
 {
@@ -118,6 +120,7 @@ fn find_value(first: TableIndex, value: &[u8]) -> StaticFound
 }
 
 // May a static entry have this value? Length and first byte tell, so that most values need no search.
+#[tactic(auto, unfolding(static_search::specs::Hash::may_be_value, static_search::specs::Hash::may_begin))]
 fn may_be_value(value: &[u8]) -> bool
     ensures { result ≡ may_be_value value.now }
 {

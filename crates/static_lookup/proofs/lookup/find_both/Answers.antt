@@ -1,0 +1,16 @@
+use Rattle.std.proofs.Common.{sym, ◌∙◌}
+use Rattle.static_search.proofs.Finding.{name-first, name-both, start-nothing}
+use Rattle.static_search.proofs.Values.{not_static}
+use Rattle.static_lookup.proofs.lookup.find_both.Goals as goal
+
+pub returns-then-not-may_be_value : goal.returns-then-not-may_be_value
+returns-then-not-may_be_value c = not_static _ _ (sym c.may_be_value.ensures ∙ c.if-not-may_be_value.true)
+
+pub find_value-requires : goal.find_value-requires
+find_value-requires c = name-first _ _ (sym c.in-At.ensures)
+
+pub returns-in-At : goal.returns-in-At
+returns-in-At c = c.find_value.ensures ∙ name-both _ _ (sym c.in-At.ensures) _
+
+pub returns-in-Nothing : goal.returns-in-Nothing
+returns-in-Nothing c = sym (start-nothing _ _ (sym c.in-Nothing.ensures))
