@@ -1,4 +1,6 @@
 // Words for what the programs tell: answers, calls, parts and faults. A table of words is a text with a line for each number from 0 on.
+#![tactic(auto)]
+
 use recording::{Fault, Kind};
 use text_io::print::{Text, number, words};
 use tokens::hex::line_end;
