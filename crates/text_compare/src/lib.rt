@@ -1,2 +1,4 @@
 // Bytes compared with text in the table, by words.
+#![tactic(auto)]
+
 pub mod text;
