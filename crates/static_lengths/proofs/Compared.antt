@@ -5,20 +5,18 @@ use Prim.Native.Nat.{ℕ, suc, ◌+◌, ◌-◌, ◌≤◌}
 use native.Mathlib.Omega.{arith}
 use mathlib.Core.List.Memᴰ
 use mathlib.Core.List.{List, [], ◌∷◌, Memᴰ}
-use lib.Dec.{eqb, leb}
+use lib.Dec.{eqb}
 use lib.ListN.{length}
 use borrow.Author.Tests.{eqb-true, eq-eqb, le-leb}
-use Rattle.memory.specs.Choice.{pick}
-use Rattle.memory.specs.Compare.{same}
 use Rattle.memory.proofs.Order.{either, pick-both, pick_true, pick-false}
 use Rattle.integers.specs.declared.number.TableIndex.{TableIndex}
-use Rattle.statics.specs.Table.{static_name, static_value}
+use Rattle.statics.specs.Table.{static_name}
 use Rattle.static_search.specs.Search.{has_name, has_both, lowest_static, lowest_name, lowest_both, find_name, find_both}
 use Rattle.static_search.specs.Hash.{candidate_of, last_of}
 use Rattle.static_search.specs.Compared.{indexes_from, candidates, compared_name, with_run, compared_both}
 use Rattle.static_search.specs.declared.search.StaticFound.{StaticFound}
 use Rattle.static_search.specs.declared.search.StaticFound.TheVariants.{At, Nothing}
-use Rattle.static_search.proofs.Finding.{has-name, has_both_lem, name-first, name-both, start-nothing}
+use Rattle.static_search.proofs.Finding.{has-name, has_both_lem, name-first, start-nothing}
 use Rattle.static_search.proofs.Hashing.{candidate-none, candidate-fits, candidate-not, candidate-has}
 use Rattle.static_search.proofs.Runs.{named, last-high, run-over, run-start}
 use Rattle.static_lengths.specs.Lengths.{of_length, first_of}

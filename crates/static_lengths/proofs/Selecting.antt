@@ -11,9 +11,8 @@ use Rattle.memory.specs.Choice.{pick}
 use Rattle.memory.proofs.Order.{split, either, not-both}
 use Rattle.static_search.specs.Search.{lowest_static}
 use Rattle.static_search.specs.Compared.{indexes_from}
-use Rattle.static_search.specs.declared.search.StaticFound.{StaticFound}
 use Rattle.static_search.specs.declared.search.StaticFound.TheVariants.{At, Nothing}
-use Rattle.static_search.proofs.Finding.{lowest-here, lowest-next}
+use Rattle.static_search.proofs.Finding.{lowest-next}
 use Rattle.static_lengths.specs.Lengths.{before, all_static, first_of}
 
 abbrev Between : (ℕ → Bool) → ℕ → ℕ → ℕ → Type 0
