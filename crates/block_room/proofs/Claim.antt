@@ -6,7 +6,7 @@ use mathlib.Core.List.{List, [], ◌∷◌}
 use lib.ListN.{length}
 use Rattle.memory.specs.Compare.{same}
 use Rattle.integers.specs.Integer.{int_wire, group_wire}
-use Rattle.wire.specs.Name.{indexed as by_index_lem}
+use Rattle.wire.specs.Name.{indexed as indexed_name}
 use Rattle.wire.proofs.TextWriting.{index-wire}
 use Rattle.statics.specs.Table.{entries, entry_at}
 use Rattle.static_search.specs.Search.{lowest_name, lowest_both, lowest_static, has_name, has_both}
@@ -33,7 +33,7 @@ unfolding block_room block_room_of
 rooms bytes fields = (refl, refl)
 
 -- what is chosen for the field beside that entry: its index in four bytes, and the value
-far-chosen : choose (far_entry ∷ []) far_field ≡ literal 0 (by_index_lem 16447) (times 127 88)
+far-chosen : choose (far_entry ∷ []) far_field ≡ literal 0 (indexed_name 16447) (times 127 88)
 unfolding choose static_field dynamic_field choose_name static_name dynamic_name serves_both serves first lowest_both lowest_name lowest_static has_both has_name same entries entry_at
 far-chosen = refl
 
@@ -46,7 +46,7 @@ needed =
       arith,
       form,
       ap (λ (r : Representation). length (representation_wire r)) far-chosen,
-      literal-length 0 (by_index_lem 16447) (times 127 88),
+      literal-length 0 (indexed_name 16447) (times 127 88),
       ap length (index-wire 6 0 16447),
       index,
       plain_more (times 127 88) refl stays_plain,

@@ -19,7 +19,7 @@ use lib.Dec.{leb}
 use borrow.Author.Tests.{le-leb, lt-leb, leb-true}
 use Rattle.memory.proofs.Order.{split, either, not-both, pick-both, pick_true, pick-false}
 use Rattle.integers.specs.Integer.{largest}
-use Rattle.wire.specs.Name.{indexed as by_index_lem, literal as by_bytes}
+use Rattle.wire.specs.Name.{indexed as indexed_name, literal as by_bytes}
 use Rattle.statics.specs.Table.{Entry, entry_at}
 use Rattle.fields.specs.Form.{Field, FineField, AllFine as AllFineFields}
 use Rattle.blocks.specs.Representation.{Representation, indexed, literal, FineRepresentation, AllFine}
@@ -121,20 +121,20 @@ module _ (lookup : ℕ → Slot) where
   field-held : (r : Representation) (f : Field) → field_meaning lookup r ≡ field f → (i : ℕ) → Memᴰ i (references r) → Held (lookup i)
   unfolding field_meaning
   field-held (indexed j) f e = at_one j (slot_held j (lookup j) _ f e)
-  field-held (literal flag (by_index_lem j) value) f e = at_one j (slot_held j (lookup j) _ f e)
+  field-held (literal flag (indexed_name j) value) f e = at_one j (slot_held j (lookup j) _ f e)
   field-held (literal flag (by_bytes name) value) f e = λ i m. absurd (Memᴰ.not-nil m)
 
   held-field : (r : Representation) → ((i : ℕ) → Memᴰ i (references r) → Held (lookup i)) → (f : Field) × (field_meaning lookup r ≡ field f)
   unfolding field_meaning
   held-field (indexed j) h = slot-field j (lookup j) _ (h j (Memᴰ.head refl))
-  held-field (literal flag (by_index_lem j) value) h = slot-field j (lookup j) _ (h j (Memᴰ.head refl))
+  held-field (literal flag (indexed_name j) value) h = slot-field j (lookup j) _ (h j (Memᴰ.head refl))
   held-field (literal flag (by_bytes name) value) h = (record { flag = flag; name = name; value = value }, refl)
 
   field-waits : (r : Representation) (i : ℕ) → field_meaning lookup r ≡ FieldMeaning.waits i → (references r ≡ i ∷ []) × (lookup i ≡ vacant)
   unfolding field_meaning
   field-waits (indexed j) i e =
       let w = slot-waits j (lookup j) _ i e in (ap (λ (k : ℕ). k ∷ []) w.0, sym (ap lookup w.0) ∙ w.1)
-  field-waits (literal flag (by_index_lem j) value) i e =
+  field-waits (literal flag (indexed_name j) value) i e =
       let w = slot-waits j (lookup j) _ i e in (ap (λ (k : ℕ). k ∷ []) w.0, sym (ap lookup w.0) ∙ w.1)
   field-waits (literal flag (by_bytes name) value) i e = let z : ◌≡◌ {A = ℕ} 0 1 = cc in absurd (omega arith)
 
@@ -176,7 +176,7 @@ module _ (lookup : ℕ → Slot) where
   field-low : (r : Representation) → FineRepresentation r → (i : ℕ) → field_meaning lookup r ≡ FieldMeaning.waits i → i ≤ largest
   unfolding field_meaning
   field-low (indexed j) h i e = omega (arith, (slot-waits j (lookup j) _ i e).0, h.1)
-  field-low (literal flag (by_index_lem j) value) h i e = omega (arith, (slot-waits j (lookup j) _ i e).0, h.1.1)
+  field-low (literal flag (indexed_name j) value) h i e = omega (arith, (slot-waits j (lookup j) _ i e).0, h.1.1)
   field-low (literal flag (by_bytes name) value) h i e = let z : ◌≡◌ {A = ℕ} 0 1 = cc in absurd (omega arith)
 
   pub waits-low : (rs : List Representation) → AllFine rs → (i : ℕ) → block_meaning lookup rs ≡ BlockMeaning.waits i → i ≤ largest
@@ -208,7 +208,7 @@ module _ (lookup : ℕ → Slot) where
     unfolding field_meaning
     field-fine (indexed i) h f e =
         slot-fine i (lookup i) refl _ (λ x a b. record { flag_bit = omega arith; name_short = a; value_short = b }) f e
-    field-fine (literal flag (by_index_lem i) value) h f e =
+    field-fine (literal flag (indexed_name i) value) h f e =
         slot-fine i (lookup i) refl _ (λ x a b. record { flag_bit = h.0; name_short = a; value_short = h.2 }) f e
     field-fine (literal flag (by_bytes name) value) h f e =
         let d : record { flag = flag; name = name; value = value } ≡ f = cc in

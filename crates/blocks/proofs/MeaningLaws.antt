@@ -4,7 +4,7 @@ use mathlib.Core.Path.{◌≡◌, refl, ap, ap₂, ◌∙◌}
 use Prim.Native.Nat.{ℕ}
 use mathlib.Core.List.Memᴰ
 use mathlib.Core.List.{List, [], ◌∷◌, ◌++◌, Memᴰ}
-use Rattle.wire.specs.Name.{indexed as by_index_lem, literal as by_bytes}
+use Rattle.wire.specs.Name.{indexed as indexed_name, literal as by_bytes}
 use Rattle.fields.specs.Form.{Field}
 use Rattle.blocks.specs.Representation.{Representation, indexed, literal}
 use Rattle.blocks.specs.Meaning.{
@@ -76,7 +76,7 @@ field-agrees : (lookup lookup' : ℕ → Slot) (r : Representation) → ((i : �
 unfolding field_meaning
 field-agrees lookup lookup' (indexed i) h =
     ap (λ (s : Slot). on_slot i s (λ e. record { flag = 0; name = e.name; value = e.value })) (h i (Memᴰ.head refl))
-field-agrees lookup lookup' (literal flag (by_index_lem i) value) h =
+field-agrees lookup lookup' (literal flag (indexed_name i) value) h =
     ap (λ (s : Slot). on_slot i s (λ e. record { flag = flag; name = e.name; value = value })) (h i (Memᴰ.head refl))
 field-agrees lookup lookup' (literal flag (by_bytes name) value) h = refl
 

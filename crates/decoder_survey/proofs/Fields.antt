@@ -7,7 +7,7 @@ use lib.ListN.{length}
 use Rattle.memory.specs.Bytes.{overlay}
 use Rattle.statics.specs.Table.{Entry}
 use Rattle.wire.specs.Text.{string_bytes}
-use Rattle.wire.specs.Name.{indexed as by_index_lem, literal as by_bytes}
+use Rattle.wire.specs.Name.{indexed as indexed_name, literal as by_bytes}
 use Rattle.wire.proofs.TextBounds.{string-size}
 use Rattle.wire.specs.declared.name.NamePlace.{NamePlace}
 use Rattle.wire.specs.declared.name.NamePlace.TheVariants.{Index, Text}
@@ -79,7 +79,7 @@ module _ (m : List ℕ) (i : ℕ) where
   names-entry = refl
 
   pub names-name : (flag : ℕ) (value : List ℕ)
-      → Names m i (λ e. record { flag = flag; name = e.name; value = value }) (field_meant m (literal flag (by_index_lem i) value))
+      → Names m i (λ e. record { flag = flag; name = e.name; value = value }) (field_meant m (literal flag (indexed_name i) value))
   unfolding field_meant field_meaning
   names-name flag value = refl
 

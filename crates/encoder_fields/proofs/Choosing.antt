@@ -9,7 +9,7 @@ use mathlib.Core.List.{List}
 use lib.Dec.{eqb}
 use Rattle.memory.specs.Bytes.{Small}
 use Rattle.memory.proofs.Order.{split}
-use Rattle.wire.specs.Name.{indexed as by_index_lem, literal as by_bytes}
+use Rattle.wire.specs.Name.{indexed as indexed_name, literal as by_bytes}
 use Rattle.static_search.specs.Search.{find_name, find_both}
 use Rattle.static_search.specs.declared.search.StaticFound.{StaticFound}
 use Rattle.static_search.specs.declared.search.StaticFound.TheVariants.{At, Nothing as NotStatic}
@@ -39,7 +39,7 @@ use Rattle.encoder_fields.specs.declared.choice.Choice.{Choice}
 -- ---- a name
 
 module _ (l : List Sent) (name : List ℕ) where
-  pub name-static : (j : TableIndex) → find_name name ≡ At j → by_index_lem j.value ≡ choose_name l name
+  pub name-static : (j : TableIndex) → find_name name ≡ At j → indexed_name j.value ≡ choose_name l name
   unfolding choose_name static_name
   name-static j e = sym (ap (static_name l name) e)
 
@@ -112,9 +112,9 @@ module _ (m : List ℕ) (small : Small m) (forms : forms_encoder m ≡ true) whe
     serving-row place e = (C.serving name place e).0
 
     pub dynamic-row : (place : ℕ) → lowest_row (serves_at m name) (count_of m) 0 ≡ Row place → (i : TableIndex) → i ≡ record { value = index_at m place }
-        → by_index_lem i.value ≡ dynamic_name name (first (serves name) (encoder_of m).entries)
+        → indexed_name i.value ≡ dynamic_name name (first (serves name) (encoder_of m).entries)
     unfolding dynamic_name sent_at
-    dynamic-row place e i d = ap (λ (i : TableIndex). by_index_lem i.value) d ∙ sym (ap (dynamic_name name) (C.serving name place e).1)
+    dynamic-row place e i d = ap (λ (i : TableIndex). indexed_name i.value) d ∙ sym (ap (dynamic_name name) (C.serving name place e).1)
 
     pub dynamic-none : lowest_row (serves_at m name) (count_of m) 0 ≡ Nothing
         → by_bytes name ≡ dynamic_name name (first (serves name) (encoder_of m).entries)

@@ -10,7 +10,7 @@ use mathlib.Core.List.{List, [], ◌∷◌, map, Memᴰ}
 use lib.Dec.{eqb, lit≤}
 use lib.ListN.{length}
 use Rattle.memory.proofs.Order.{pick-both}
-use Rattle.wire.specs.Name.{Name, indexed as by_index_lem, literal as by_bytes}
+use Rattle.wire.specs.Name.{Name, indexed as indexed_name, literal as by_bytes}
 use Rattle.static_search.specs.Search.{find_name, find_both}
 use Rattle.static_search.specs.declared.search.StaticFound.{StaticFound}
 use Rattle.static_search.specs.declared.search.StaticFound.TheVariants.{At, Nothing}
@@ -46,7 +46,7 @@ module _ (E : Encoder) (F : FormsEncoder E) where
   -- ---- names
 
   abbrev NameKnown : Name → Type 0
-  NameKnown (by_index_lem i) = Known i
+  NameKnown (indexed_name i) = Known i
   NameKnown (by_bytes name) = length name ≤ 255
 
   name-known : (name : List ℕ) → length name ≤ 255 → NameKnown (choose_name l name)
@@ -61,7 +61,7 @@ module _ (E : Encoder) (F : FormsEncoder E) where
       go (At j) h = let w = name-found name 61 1 j h in static-known j.value (omega (arith, w.low)) (omega (arith, w.high))
       go Nothing h = dynamic (first (serves name) l) refl
 
-  pub index-known : (name : List ℕ) → length name ≤ 255 → (i : ℕ) → by_index_lem i ≡ choose_name l name → (0 < i) × (i ≤ 189)
+  pub index-known : (name : List ℕ) → length name ≤ 255 → (i : ℕ) → indexed_name i ≡ choose_name l name → (0 < i) × (i ≤ 189)
   index-known name short i e = let known = subst NameKnown (sym e) (name-known name short) in (known.low, known.high)
 
   -- ---- representations
@@ -90,12 +90,12 @@ module _ (E : Encoder) (F : FormsEncoder E) where
 
   known-fine : (r : Representation) → AllKnown r → FineRepresentation r
   known-fine (indexed i) k = (k.low, omega (arith, k.high))
-  known-fine (literal flag (by_index_lem i) value) k = (k.0, (k.1.low, omega (arith, k.1.high)), k.2)
+  known-fine (literal flag (indexed_name i) value) k = (k.0, (k.1.low, omega (arith, k.1.high)), k.2)
   known-fine (literal flag (by_bytes name) value) k = k
 
   known-held : (r : Representation) → AllKnown r → (i : ℕ) → Memᴰ i (references r) → 62 ≤ i → is_some (look sent_index i l) ≡ true
   known-held (indexed j) k i m h = let e = Memᴰ.eq_of_singleton m in subst (λ (n : ℕ). 62 ≤ n → is_some (look sent_index n l) ≡ true) (sym e) k.held h
-  known-held (literal flag (by_index_lem j) value) k i m h =
+  known-held (literal flag (indexed_name j) value) k i m h =
       let e = Memᴰ.eq_of_singleton m in subst (λ (n : ℕ). 62 ≤ n → is_some (look sent_index n l) ≡ true) (sym e) k.1.held h
   known-held (literal flag (by_bytes name) value) k i m h = absurd (Memᴰ.not-nil m)
 

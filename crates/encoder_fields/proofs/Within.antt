@@ -12,7 +12,7 @@ use borrow.Author.Tests.{le-ltb}
 use Rattle.memory.proofs.Order.{split, pick-both, pick-false}
 use Rattle.integers.proofs.Lengths.{int-one, int-within}
 use Rattle.wire.specs.Text.{string_wire}
-use Rattle.wire.specs.Name.{indexed as by_index_lem, literal as by_bytes}
+use Rattle.wire.specs.Name.{indexed as indexed_name, literal as by_bytes}
 use Rattle.wire.proofs.TextWriting.{string-within, index-wire, literal-length-wire}
 use Rattle.static_search.specs.Search.{find_name, find_both}
 use Rattle.static_search.specs.declared.search.StaticFound.{StaticFound}
@@ -87,12 +87,12 @@ module _ (f : Field) (fine : FineField f) where
   indexed-within i h = omega (arith, form-least, ap length (indexed-wire i), int-within 7 128 i 1 (omega arith))
 
   module _ (flag : ℕ) where
-    named-within : (i : ℕ) → i ≤ 16446 → Within (literal flag (by_index_lem i) f.value)
+    named-within : (i : ℕ) → i ≤ 16446 → Within (literal flag (indexed_name i) f.value)
     named-within i h =
         omega (
           arith,
           field_form-split f,
-          literal-length flag (by_index_lem i) f.value,
+          literal-length flag (indexed_name i) f.value,
           ap length (index-wire 6 (flag * 64) i),
           int-within 6 (flag * 64) i 1 (omega arith),
           text_form-length f.name (omega (arith, fine.name_short)),

@@ -10,7 +10,7 @@ use Rattle.memory.specs.Choice.{pick}
 use Rattle.memory.specs.Bytes.{Small}
 use Rattle.memory.specs.Compare.{same}
 use Rattle.memory.proofs.Order.{pick-both, pick_true, pick-false}
-use Rattle.wire.specs.Name.{Name, indexed as by_index_lem}
+use Rattle.wire.specs.Name.{Name, indexed as indexed_name}
 use Rattle.statics.specs.Table.{Entry}
 use Rattle.static_search.specs.Search.{find_name, find_both}
 use Rattle.static_search.specs.declared.search.StaticFound.{StaticFound}
@@ -60,7 +60,7 @@ module _ (g : Sent → Sent) (index : (e : Sent) → (g e).index ≡ e.index) (e
       where
         dynamic : (o : Option Sent) → dynamic_name name (Option.map g o) ≡ dynamic_name name o
         dynamic none = refl
-        dynamic (some e) = ap by_index_lem (index e)
+        dynamic (some e) = ap indexed_name (index e)
 
         go : (o : StaticFound) → static_name (map g l) name o ≡ static_name l name o
         go (At j) = refl

@@ -13,7 +13,7 @@ use borrow.Author.Tests.{lt-ltb, le-ltb}
 use Rattle.memory.specs.Choice.{pick}
 use Rattle.memory.specs.Bytes.{Small}
 use Rattle.memory.proofs.Order.{pick_true, pick-false}
-use Rattle.wire.specs.Name.{indexed as by_index_lem, literal as by_bytes}
+use Rattle.wire.specs.Name.{indexed as indexed_name, literal as by_bytes}
 use Rattle.fields.specs.Form.{Field}
 use Rattle.blocks.specs.Representation.{Representation, indexed, literal}
 use Rattle.blocks.specs.Meaning.{references, block_references}
@@ -195,7 +195,7 @@ module _ (m : List ℕ) (small : Small m) (forms : forms_encoder m ≡ true) (st
       → entered_by (entered m stream part ps) stream part r ≡ entered m stream part (ps ++ (r ∷ []))
   unfolding entered entered_one
   entered-more ps (indexed i) held = after-index E m H stream part below ps (indexed i) i refl held
-  entered-more ps (literal flag (by_index_lem i) value) held = after-index E m H stream part below ps (literal flag (by_index_lem i) value) i refl held
+  entered-more ps (literal flag (indexed_name i) value) held = after-index E m H stream part below ps (literal flag (indexed_name i) value) i refl held
   entered-more ps (literal flag (by_bytes name) value) held = after_text E m H stream part below ps (literal flag (by_bytes name) value) refl
 
   pub entered-written : (rs : List Representation)

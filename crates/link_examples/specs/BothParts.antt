@@ -22,10 +22,10 @@ holds count stream = 0 ∷ count ∷ stream ∷ []
 
 -- an insert of an entry without name and value, at index 190 and at 2^27 − 1
 abbrev pub insert_190 : List ℕ
-insert_190 = 0x_ff ∷ 0x3_f ∷ 0x00 ∷ 0x00 ∷ 0x00 ∷ []
+insert_190 = 0xFF ∷ 0x3_f ∷ 0x00 ∷ 0x00 ∷ 0x00 ∷ []
 
 abbrev pub insert_largest : List ℕ
-insert_largest = 0x_ff ∷ 0x80 ∷ 0x_ff ∷ 0x_ff ∷ 0x3_f ∷ 0x00 ∷ 0x00 ∷ 0x00 ∷ []
+insert_largest = 0xFF ∷ 0x80 ∷ 0xFF ∷ 0xFF ∷ 0x3_f ∷ 0x00 ∷ 0x00 ∷ 0x00 ∷ []
 
 pub record BothParts (m : List ℕ) : Type 0 where
   -- "how many named parts are unfinished": two of one stream count twice

@@ -7,7 +7,7 @@ use mathlib.Core.Bool.{true, false}
 use mathlib.Core.Option.{none, some}
 use mathlib.Core.List.{List, [], ◌∷◌, ◌++◌}
 use Rattle.integers.specs.Answers.{done, refusal}
-use Rattle.wire.specs.Name.{indexed as by_index_lem, literal as by_bytes}
+use Rattle.wire.specs.Name.{indexed as indexed_name, literal as by_bytes}
 use Rattle.statics.specs.Ascii.{bytes}
 use Rattle.fields.specs.Form.{Field}
 use Rattle.instructions.specs.Instruction.{Instruction, insert, delete, acknowledge}
@@ -72,7 +72,7 @@ abbrev turns-2 : List Field
 turns-2 = field (bytes "turns") (bytes "2") ∷ field (bytes "turns") (bytes "0") ∷ []
 
 pub stored-whole :
-    decoder_outputs 128 (read (insert 62 (by_bytes (bytes "turns")) (bytes "2")) 10 ∷ read (insert 63 (by_index_lem 62) (bytes "0")) 4
+    decoder_outputs 128 (read (insert 62 (by_bytes (bytes "turns")) (bytes "2")) 10 ∷ read (insert 63 (indexed_name 62) (bytes "0")) 4
     ∷ block 0 0 (indexed 62 ∷ indexed 63 ∷ []) 64 ∷ []) ≡
     nothing ∷ nothing ∷ fields turns-2 ∷ []
 unfolding decoder_outputs
@@ -123,7 +123,7 @@ listed-named = refl
 -- "the lowest such dynamic index not under deletion, else a literal", and for a name "the lowest dynamic one not under deletion, else by string"
 pub lowest-chosen :
     encoder_outputs 68 (put-h9 ∷ put-h9 ∷ says-h 0 0 (bytes "9") ∷ says-h 1 0 (bytes "8") ∷ []) ≡
-    said-insert ∷ instruction (insert 63 (by_index_lem 62) (bytes "9")) ∷ wrote (indexed 62) ∷ wrote (literal 0 (by_index_lem 62) (bytes "8")) ∷ []
+    said-insert ∷ instruction (insert 63 (indexed_name 62) (bytes "9")) ∷ wrote (indexed 62) ∷ wrote (literal 0 (indexed_name 62) (bytes "8")) ∷ []
 unfolding encoder_outputs
 lowest-chosen = refl
 
@@ -155,7 +155,7 @@ horizon-by-index = refl
 -- the later block refers to the entry for its name alone
 pub horizon-for-name :
     encoder_outputs 68 (put-h9 ∷ says-h 5 0 (bytes "9") ∷ says-h 7 0 (bytes "8") ∷ delete-62 ∷ []) ≡
-    said-insert ∷ wrote (indexed 62) ∷ wrote (literal 0 (by_index_lem 62) (bytes "8")) ∷ said-delete 8 0 ∷ []
+    said-insert ∷ wrote (indexed 62) ∷ wrote (literal 0 (indexed_name 62) (bytes "8")) ∷ said-delete 8 0 ∷ []
 unfolding encoder_outputs
 horizon-for-name = refl
 
@@ -192,7 +192,7 @@ deleted-counted-encoder = refl
 
 -- ---- what happened: the two entries of stored-whole, a delete of 62 with both lists, and 62 freed
 abbrev three : List Instruction
-three = insert 62 (by_bytes (bytes "turns")) (bytes "2") ∷ insert 63 (by_index_lem 62) (bytes "0") ∷ delete 62 list-3-4-7 (empty_list 1) ∷ []
+three = insert 62 (by_bytes (bytes "turns")) (bytes "2") ∷ insert 63 (indexed_name 62) (bytes "0") ∷ delete 62 list-3-4-7 (empty_list 1) ∷ []
 
 abbrev then-freed : List Instruction
 then-freed = three ++ (acknowledge 62 ∷ [])

@@ -15,7 +15,7 @@ use Rattle.memory.specs.Choice.{pick, need}
 use Rattle.memory.proofs.Order.{need-true}
 use Rattle.statics.specs.Table.{Entry, entry_at}
 use Rattle.fields.specs.Form.{Field, list_form}
-use Rattle.wire.specs.Name.{indexed as by_index_lem, literal as by_bytes}
+use Rattle.wire.specs.Name.{indexed as indexed_name, literal as by_bytes}
 use Rattle.blocks.specs.Representation.{Representation, indexed, literal, AllFine}
 use Rattle.blocks.specs.Meaning.{Slot, holds, is_static, with_statics, on_slot, field, field_meaning, BlockMeaning, list, after_field, block_meaning, block_references}
 use Rattle.blocks.specs.Meaning.{Refers}
@@ -70,7 +70,7 @@ pub meaning-view : (D : Decoder) (rs : List Representation) → machine.meaning 
 unfolding machine.meaning slot_items slot_item block_meaning field_meaning lookup with_statics
 meaning-view D [] = refl
 meaning-view D (indexed i ∷ rs) = index-view D i (slot_items rs) (block_meaning (lookup D) rs) (meaning-view D rs) (is_static i)
-meaning-view D (literal flag (by_index_lem i) value ∷ rs) =
+meaning-view D (literal flag (indexed_name i) value ∷ rs) =
     literal-view D i (slot_items rs) (block_meaning (lookup D) rs) (meaning-view D rs) flag value (is_static i)
 meaning-view D (literal flag (by_bytes name) value ∷ rs) = rw (meaning-view D rs) (put_view _ (block_meaning (lookup D) rs))
 
@@ -122,7 +122,7 @@ unfolding slot_items slot_item block_references
 refers-items [] i m l = absurd (Memᴰ.not-nil m)
 refers-items (indexed j ∷ rs) i m l =
     ⊎_elim (λ (e : i ≡ j). rw (static-above j (omega arith)) (names-index (sym e))) (λ n. names-later (refers-items rs i n l)) (Memᴰ.cases_cons m)
-refers-items (literal flag (by_index_lem j) value ∷ rs) i m l =
+refers-items (literal flag (indexed_name j) value ∷ rs) i m l =
     ⊎_elim (λ (e : i ≡ j). rw (static-above j (omega arith)) (names-name (sym e))) (λ n. names-later (refers-items rs i n l)) (Memᴰ.cases_cons m)
 refers-items (literal flag (by_bytes name) value ∷ rs) i m l = names-later (refers-items rs i m l)
 
@@ -141,8 +141,8 @@ unfolding slot_items slot_item block_references
 refers-back (indexed j ∷ rs) a i m =
     ⊎_elim (λ h. let e = here-index i j (entry_field (entry_at j)) a.0.0 (is_static j) refl h in (e.0, Memᴰ.head (sym e.1)))
     (λ n. let r = refers-back rs a.1 i n in (r.0, Memᴰ.tail r.1)) (refers-cases (slot_item (indexed j)) (slot_items rs) i m)
-refers-back (literal flag (by_index_lem j) value ∷ rs) a i m =
+refers-back (literal flag (indexed_name j) value ∷ rs) a i m =
     ⊎_elim (λ h. let e = here-name i j (field_named flag value (entry_at j)) flag value a.0.1.0 (is_static j) refl h in (e.0, Memᴰ.head (sym e.1)))
-    (λ n. let r = refers-back rs a.1 i n in (r.0, Memᴰ.tail r.1)) (refers-cases (slot_item (literal flag (by_index_lem j) value)) (slot_items rs) i m)
+    (λ n. let r = refers-back rs a.1 i n in (r.0, Memᴰ.tail r.1)) (refers-cases (slot_item (literal flag (indexed_name j) value)) (slot_items rs) i m)
 refers-back (literal flag (by_bytes name) value ∷ rs) a i m =
     ⊎_elim (λ h. absurd h) (λ n. refers-back rs a.1 i n) (refers-cases (slot_item (literal flag (by_bytes name) value)) (slot_items rs) i m)

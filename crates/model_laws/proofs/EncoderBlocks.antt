@@ -13,7 +13,7 @@ use mathlib.Core.List.{List, [], ◌∷◌, ◌++◌, map, append-nil, Memᴰ}
 use lib.Dec.{eqb}
 use Rattle.memory.specs.Choice.{pick}
 use Rattle.memory.proofs.Order.{pick-both, pick_true, pick-false}
-use Rattle.wire.specs.Name.{indexed as by_index_lem, literal as by_bytes}
+use Rattle.wire.specs.Name.{indexed as indexed_name, literal as by_bytes}
 use Rattle.statics.specs.Table.{Entry, entry_at}
 use Rattle.fields.specs.Form.{Field}
 use Rattle.blocks.specs.Representation.{Representation, indexed, literal}
@@ -109,11 +109,11 @@ module _ (l : List Sent) (P : ℕ → Entry → Type 0) where
       pick-eq (λ (t : Bool). t ≡ true → (c : Entry) × P i c) j i true (mentions (block_references rs) i)
       (λ e k. (c, dynamic i j h (entry_field (entry_at j)) (meant_index j c) c (meant_by l rs) (λ u. u.0) r e))
       (λ e k. mentioned i h rs (refs-tail P (meant l (indexed j)) (meant_by l rs) r) k) m
-  mentioned i h (literal flag (by_index_lem j) v ∷ rs) r m =
+  mentioned i h (literal flag (indexed_name j) v ∷ rs) r m =
       let c : Entry = entry_of (look sent_index j l) in
       pick-eq (λ (t : Bool). t ≡ true → (c : Entry) × P i c) j i true (mentions (block_references rs) i)
       (λ e k. (c, dynamic i j h (field_named flag v (entry_at j)) (meant_name j c flag v) c (meant_by l rs) (λ u. u.0) r e))
-      (λ e k. mentioned i h rs (refs-tail P (meant l (literal flag (by_index_lem j) v)) (meant_by l rs) r) k) m
+      (λ e k. mentioned i h rs (refs-tail P (meant l (literal flag (indexed_name j) v)) (meant_by l rs) r) k) m
   mentioned i h (literal flag (by_bytes n) v ∷ rs) r m = mentioned i h rs r m
 
   -- each reference is mentioned: in the block, and so behind the index j
@@ -137,7 +137,7 @@ module _ (l : List Sent) (P : ℕ → Entry → Type 0) where
       (meant_index j (entry_of (look sent_index j l)))
       (λ t u. behind j rs (meant_by l rs) (mentions-all rs u))
       (λ t u. ((u.0, pick_yes j j true (mentions (block_references rs) j) refl), behind j rs (meant_by l rs) (mentions-all rs u.1))) r
-  mentions-all (literal flag (by_index_lem j) v ∷ rs) r =
+  mentions-all (literal flag (indexed_name j) v ∷ rs) r =
       pick-both (λ (x : MeantItem). EachReference P (x ∷ meant_by l rs) → EachReference (Behind j rs) (x ∷ meant_by l rs)) (is_static j)
       (meant_given (field_named flag v (entry_at j)))
       (meant_name j (entry_of (look sent_index j l)) flag v)

@@ -12,7 +12,7 @@ use Rattle.memory.specs.Choice.{pick}
 use Rattle.memory.specs.Compare.{same}
 use Rattle.memory.proofs.Order.{split, pick-both, pick_true, pick-false}
 use Rattle.memory.proofs.Sameness.{same-eq}
-use Rattle.wire.specs.Name.{Name, indexed as by_index_lem, literal as by_bytes}
+use Rattle.wire.specs.Name.{Name, indexed as indexed_name, literal as by_bytes}
 use Rattle.statics.specs.Table.{Entry, entry_at}
 use Rattle.static_search.specs.Search.{find_name, find_both}
 use Rattle.static_search.specs.declared.search.StaticFound.{StaticFound}
@@ -39,7 +39,7 @@ entry_of (some e) = e.entry
 unfoldable pub meant : List Sent → Representation → MeantItem
 unfolding entry_of
 meant l (indexed i) = pick (is_static i) (meant_given (entry_field (entry_at i))) (meant_index i (entry_of (look sent_index i l)))
-meant l (literal flag (by_index_lem i) value) =
+meant l (literal flag (indexed_name i) value) =
     pick (is_static i) (meant_given (field_named flag value (entry_at i))) (meant_name i (entry_of (look sent_index i l)) flag value)
 meant l (literal flag (by_bytes name) value) = meant_given (record { flag = flag; name = name; value = value })
 
@@ -64,10 +64,10 @@ meant-nontrailer l (indexed i ∷ rs) =
     nontrailer-pick (is_static i) (meant_given (entry_field (entry_at i))) (meant_index i (entry_of (look sent_index i l))) (given (entry_field (entry_at i))) (by_index i)
     (meant_by l rs) refl refl
     ∙ ap (λ (t : List Item). slot_item (indexed i) ∷ t) (meant-nontrailer l rs)
-meant-nontrailer l (literal flag (by_index_lem i) value ∷ rs) =
+meant-nontrailer l (literal flag (indexed_name i) value ∷ rs) =
     nontrailer-pick (is_static i) (meant_given (field_named flag value (entry_at i))) (meant_name i (entry_of (look sent_index i l)) flag value)
     (given (field_named flag value (entry_at i))) (by_name i flag value) (meant_by l rs) refl refl
-    ∙ ap (λ (t : List Item). slot_item (literal flag (by_index_lem i) value) ∷ t) (meant-nontrailer l rs)
+    ∙ ap (λ (t : List Item). slot_item (literal flag (indexed_name i) value) ∷ t) (meant-nontrailer l rs)
 meant-nontrailer l (literal flag (by_bytes name) value ∷ rs) =
     ap (λ (t : List Item). given (record { flag = flag; name = name; value = value }) ∷ t) (meant-nontrailer l rs)
 
@@ -100,8 +100,8 @@ module _ (l : List Sent) (a : Ascending sent_index 62 l) where
   -- how a name was chosen
   pub data Chosen (name : List ℕ) (n : Name) : Type 0 where
     by-string : n ≡ by_bytes name → Chosen name n
-    by-static : (j : ℕ) → is_static j ≡ true → (entry_at j).name ≡ name → n ≡ by_index_lem j → Chosen name n
-    by-entry : (e : Sent) → look sent_index e.index l ≡ some e → e.entry.name ≡ name → e.deleted ≡ false → n ≡ by_index_lem e.index → Chosen name n
+    by-static : (j : ℕ) → is_static j ≡ true → (entry_at j).name ≡ name → n ≡ indexed_name j → Chosen name n
+    by-entry : (e : Sent) → look sent_index e.index l ≡ some e → e.entry.name ≡ name → e.deleted ≡ false → n ≡ indexed_name e.index → Chosen name n
 
   pub name-chosen : (name : List ℕ) → Chosen name (choose_name l name)
   unfolding choose_name static_name dynamic_name
@@ -129,7 +129,7 @@ module _ (l : List Sent) (a : Ascending sent_index 62 l) where
         pick-false (is_static e.index) _ _ (static-above e.index (found-high e.index e found))
         ∙ ap (λ (o : Option Sent). meant_index e.index (entry_of o)) found
 
-    pub name-meant : (flag : ℕ) (value : List ℕ) → meant l (literal flag (by_index_lem e.index) value) ≡ meant_name e.index e.entry flag value
+    pub name-meant : (flag : ℕ) (value : List ℕ) → meant l (literal flag (indexed_name e.index) value) ≡ meant_name e.index e.entry flag value
     unfolding meant entry_of
     name-meant flag value =
         pick-false (is_static e.index) _ _ (static-above e.index (found-high e.index e found))

@@ -6,7 +6,7 @@ use mathlib.Core.Bool.{true}
 use mathlib.Core.List.{List}
 use Rattle.memory.specs.Choice.{pick}
 use Rattle.memory.proofs.Order.{pick_true, pick-false}
-use Rattle.wire.specs.Name.{Name, indexed as by_index_lem, literal as by_bytes}
+use Rattle.wire.specs.Name.{Name, indexed as indexed_name, literal as by_bytes}
 use Rattle.statics.specs.Table.{Entry}
 use Rattle.instructions.specs.Instruction.{insert}
 use Rattle.blocks.specs.Meaning.{is_static}
@@ -21,16 +21,16 @@ use Rattle.model_laws.proofs.EncoderItems.{found-high, Chosen, by-string, by-sta
 -- the insert of c at i under this name
 unfoldable pub note_by : ℕ → Entry → Name → Note
 note_by i c (by_bytes name) = note_insert i c
-note_by i c (by_index_lem j) = pick (is_static j) (note_insert i c) (note_named i j c)
+note_by i c (indexed_name j) = pick (is_static j) (note_insert i c) (note_named i j c)
 
 abbrev pub note_of : List Sent → ℕ → List ℕ → List ℕ → Note
 note_of l i name value = note_by i (record { name = name; value = value }) (choose_name l name)
 
-pub note-static : (i j : ℕ) (c : Entry) → is_static j ≡ true → note_by i c (by_index_lem j) ≡ note_insert i c
+pub note-static : (i j : ℕ) (c : Entry) → is_static j ≡ true → note_by i c (indexed_name j) ≡ note_insert i c
 unfolding note_by
 note-static i j c h = pick_true (is_static j) (note_insert i c) (note_named i j c) h
 
-pub note-dynamic : (i j : ℕ) (c : Entry) → 61 < j → note_by i c (by_index_lem j) ≡ note_named i j c
+pub note-dynamic : (i j : ℕ) (c : Entry) → 61 < j → note_by i c (indexed_name j) ≡ note_named i j c
 unfolding note_by
 note-dynamic i j c h = pick-false (is_static j) (note_insert i c) (note_named i j c) (static-above j h)
 

@@ -6,7 +6,7 @@ use mathlib.Core.Option.{Option, none, some}
 use mathlib.Core.List.{List, [], ◌∷◌}
 use Rattle.memory.specs.Choice.{pick}
 use Rattle.statics.specs.Table.{Entry, entry_at}
-use Rattle.wire.specs.Name.{Name, indexed as by_index_lem, literal as by_bytes}
+use Rattle.wire.specs.Name.{Name, indexed as indexed_name, literal as by_bytes}
 use Rattle.stream_lists.specs.StreamList.{StreamList}
 use Rattle.instructions.specs.Instruction.{Instruction, insert, delete, acknowledge}
 use Rattle.blocks.specs.Representation.{Representation, indexed, literal}
@@ -49,7 +49,7 @@ tables_of D = record { slots = slots_of D; finished = D.finished; filled = held_
 -- ---- instructions and blocks: a static entry is no slot
 
 unfoldable pub source_of : Name → List ℕ → NameSource
-source_of (by_index_lem i) value = pick (is_static i) (own_name (record { name = (entry_at i).name; value = value })) (name_of_slot i value)
+source_of (indexed_name i) value = pick (is_static i) (own_name (record { name = (entry_at i).name; value = value })) (name_of_slot i value)
 source_of (by_bytes name) value = own_name (record { name = name; value = value })
 
 -- an acknowledgement never comes to the decoder
@@ -60,7 +60,7 @@ slot_instruction (acknowledge i) = delete_slot i no_lists
 
 unfoldable pub slot_item : Representation → Item
 slot_item (indexed i) = pick (is_static i) (given (entry_field (entry_at i))) (by_index i)
-slot_item (literal flag (by_index_lem i) value) = pick (is_static i) (given (field_named flag value (entry_at i))) (by_name i flag value)
+slot_item (literal flag (indexed_name i) value) = pick (is_static i) (given (field_named flag value (entry_at i))) (by_name i flag value)
 slot_item (literal flag (by_bytes name) value) = given (record { flag = flag; name = name; value = value })
 
 unfoldable pub slot_items : List Representation → List Item

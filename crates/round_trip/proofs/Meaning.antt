@@ -5,7 +5,7 @@ use Prim.Native.Nat.{ℕ}
 use mathlib.Core.Bool.{Bool, true, false}
 use mathlib.Core.List.{List, [], ◌∷◌, map}
 use Rattle.memory.specs.Choice.{pick}
-use Rattle.wire.specs.Name.{indexed as by_index_lem, literal as by_bytes}
+use Rattle.wire.specs.Name.{indexed as indexed_name, literal as by_bytes}
 use Rattle.statics.specs.Table.{Entry, entry_at}
 use Rattle.fields.specs.Form.{Field, AllFine}
 use Rattle.blocks.specs.Representation.{Representation, indexed, literal}
@@ -46,7 +46,7 @@ module _ (l : List Sent) where
   means-meant [] r = refl
   means-meant (indexed i ∷ rs) r =
       named i entry_field (meant_index i) (meant_by l rs) (λ c. refl) (λ c s. s) (is_static i) (block_meaning slots rs) (means-meant rs) r
-  means-meant (literal flag (by_index_lem i) value ∷ rs) r =
+  means-meant (literal flag (indexed_name i) value ∷ rs) r =
       named i (field_named flag value) (λ c. meant_name i c flag value) (meant_by l rs) (λ c. refl) (λ c s. s) (is_static i) (block_meaning slots rs)
       (means-meant rs) r
   means-meant (literal flag (by_bytes name) value ∷ rs) r = rw (means-meant rs r) refl

@@ -74,13 +74,13 @@ check number computed paper = record { number = number; computed = computed; pap
 
 -- number 4's bytes; and the same at 63 and 64, for number 9
 abbrev pub h9 : List ℕ
-h9 = 0x_be ∷ 0x00 ∷ 0x01 ∷ 0x68 ∷ 0x01 ∷ 0x39 ∷ []
+h9 = 0xBE ∷ 0x00 ∷ 0x01 ∷ 0x68 ∷ 0x01 ∷ 0x39 ∷ []
 
 abbrev pub h9_63 : List ℕ
-h9_63 = 0x_bf ∷ 0x00 ∷ 0x01 ∷ 0x68 ∷ 0x01 ∷ 0x39 ∷ []
+h9_63 = 0xBF ∷ 0x00 ∷ 0x01 ∷ 0x68 ∷ 0x01 ∷ 0x39 ∷ []
 
 abbrev pub h9_64 : List ℕ
-h9_64 = 0x_c0 ∷ 0x00 ∷ 0x01 ∷ 0x68 ∷ 0x01 ∷ 0x39 ∷ []
+h9_64 = 0xC0 ∷ 0x00 ∷ 0x01 ∷ 0x68 ∷ 0x01 ∷ 0x39 ∷ []
 
 -- the calls "after 4", and with streams 0 to 4 past their non-trailer part; number 10's bytes
 abbrev pub after4 : List DecoderCall
@@ -106,8 +106,8 @@ checks m =
     -- 2. "Insert index 127: starts FF 00. Index 134,217,727: FF 80 FF FF 3F. FF 81 FF FF 3F gives 3."
     check 2
     (take 2 (instruction_wire (insert 127 (literal []) [])) ++ take 5 (instruction_wire (insert 134217727 (literal []) []))
-    ++ tells m [] (read (0x_ff ∷ 0x81 ∷ 0x_ff ∷ 0x_ff ∷ 0x3_f ∷ [])))
-    (0x_ff ∷ 0x00 ∷ 0x_ff ∷ 0x80 ∷ 0x_ff ∷ 0x_ff ∷ 0x3_f ∷ 3 ∷ 0 ∷ 0 ∷ []) ∷
+    ++ tells m [] (read (0xFF ∷ 0x81 ∷ 0xFF ∷ 0xFF ∷ 0x3_f ∷ [])))
+    (0xFF ∷ 0x00 ∷ 0xFF ∷ 0x80 ∷ 0xFF ∷ 0xFF ∷ 0x3_f ∷ 3 ∷ 0 ∷ 0 ∷ []) ∷
     -- 3. "Delete 62 starts 3E, delete 63 starts 3F 00. Acknowledgements: 7E, 7F 00."
     check 3
     (take 1 (instruction_wire (delete 62 (empty_list 0) (empty_list 0))) ++ take 2 (instruction_wire (delete 63 (empty_list 0) (empty_list 0)))
@@ -118,10 +118,10 @@ checks m =
     check 4 (tells m [] (read h9) ++ (held_of (since m 4096 after4) ∷ instruction_wire (insert 62 (literal (0x68 ∷ [])) (0x39 ∷ []))))
     (0 ∷ 6 ∷ 0 ∷ 34 ∷ h9) ∷
     -- 5. "After 4, block BE 82 gives the list, whole: 00 01 68 01 39 00 07 3A 6D 65 74 68 6F 64 03 47 45 54."
-    check 5 (tells m after4 (block (0x_be ∷ 0x82 ∷ []) 18))
+    check 5 (tells m after4 (block (0xBE ∷ 0x82 ∷ []) 18))
     (0 ∷ 18 ∷ 0 ∷ 0x00 ∷ 0x01 ∷ 0x68 ∷ 0x01 ∷ 0x39 ∷ 0x00 ∷ 0x07 ∷ 0x3_a ∷ 0x6_d ∷ 0x65 ∷ 0x74 ∷ 0x68 ∷ 0x6_f ∷ 0x64 ∷ 0x03 ∷ 0x47 ∷ 0x45 ∷ 0x54 ∷ []) ∷
     -- 6. "Before 4 the same block gives 1 with index 62."
-    check 6 (tells m [] (block (0x_be ∷ 0x82 ∷ []) 18)) (1 ∷ 62 ∷ 0 ∷ []) ∷
+    check 6 (tells m [] (block (0xBE ∷ 0x82 ∷ []) 18)) (1 ∷ 62 ∷ 0 ∷ []) ∷
     -- 7. "After 4, 7E 01 37 gives 01 01 68 01 37."
     check 7 (tells m after4 (block (0x7_e ∷ 0x01 ∷ 0x37 ∷ []) 5)) (0 ∷ 5 ∷ 0 ∷ 0x01 ∷ 0x01 ∷ 0x68 ∷ 0x01 ∷ 0x37 ∷ []) ∷
     -- 8. "List 03 02 01 03 names 0, 1, 2, 4 and 7, not 3." All the streams that it names, from the bytes of a delete with this list; and what the hold

@@ -11,12 +11,12 @@ use Rattle.wire.specs.Text.{text_at, string_end, string_after, read_string}
 use Rattle.wire.specs.declared.text.StringRead.TheVariants.{Found, Refused}
 
 -- 18 C0 says "aa0" and bad padding, FF FF FF FC 00 00 the end mark and what follows it
-pub packed : (read_string (0x82 ∷ 0x18 ∷ 0x_c0 ∷ []) 0 1 ≡ Refused 13)
-    × (read_string (0x82 ∷ 0x18 ∷ 0x_c0 ∷ []) 0 3 ≡ Refused 18)
+pub packed : (read_string (0x82 ∷ 0x18 ∷ 0xC0 ∷ []) 0 1 ≡ Refused 13)
+    × (read_string (0x82 ∷ 0x18 ∷ 0xC0 ∷ []) 0 3 ≡ Refused 18)
     × (read_string (0x85 ∷ []) 0 1 ≡ Refused 13)
     × (read_string (0x84 ∷ []) 0 1 ≡ Refused 2)
     × (read_string (0x82 ∷ 0x18 ∷ []) 0 1 ≡ Refused 2)
-    × (read_string (0x86 ∷ 0x_ff ∷ 0x_ff ∷ 0x_ff ∷ 0x_fc ∷ 0x00 ∷ 0x00 ∷ []) 0 2 ≡ Refused 18)
+    × (read_string (0x86 ∷ 0xFF ∷ 0xFF ∷ 0xFF ∷ 0xFC ∷ 0x00 ∷ 0x00 ∷ []) 0 2 ≡ Refused 18)
     × (read_string (0x80 ∷ []) 0 0 ≡ Found (record { start = 1; size = 0; packed = true; length = 0 }) 1)
     × (read_string (0x81 ∷ 0x1_f ∷ []) 0 1 ≡ Found (record { start = 1; size = 1; packed = true; length = 1 }) 2)
 unfolding read_int groups codes code_of bits_of bits begins standing_in standing padding unpack_bits unpack text_at string_end string_after read_string

@@ -3,7 +3,7 @@ use Prim.Native.Nat.{ℕ}
 use mathlib.Core.Path.{sym, ap, ap₂, subst, ◌∙◌}
 use mathlib.Core.List.{List}
 use lib.ListN.{length}
-use Rattle.wire.specs.Name.{indexed as by_index_lem, literal as by_bytes}
+use Rattle.wire.specs.Name.{indexed as indexed_name, literal as by_bytes}
 use Rattle.fields.specs.Reading.{field_of}
 use Rattle.blocks.specs.Representation.{literal}
 use Rattle.encoder_fields.specs.Measure.{chosen}
@@ -33,7 +33,7 @@ write-literal-index-requires c κs =
     let a = start.args in
     let i = c.before.before.before.choice2.given in
     subst (Writable a.at (length a.out.now))
-    (ap (chosen (field_of a.s.now a.f)) i.1 ∙ ap (literal a.f.flag (by_index_lem i.0.0.value)) (sym c.before.text_at.ensures))
+    (ap (chosen (field_of a.s.now a.f)) i.1 ∙ ap (literal a.f.flag (indexed_name i.0.0.value)) (sym c.before.text_at.ensures))
     start.requires.1
 
 enum_told : tie.Need-enum-told
@@ -73,7 +73,7 @@ returns-2 c =
     let a = wrote.before.before.before.before.before.before.before.before.args in
     let i = wrote.before.before.before.before.choice2.given in
     subst (Wrote a.out.now a.at _ _)
-    (ap (literal a.f.flag (by_index_lem i.0.0.value)) wrote.before.before.text_at.ensures ∙ sym (ap (chosen (field_of a.s.now a.f)) i.1))
+    (ap (literal a.f.flag (indexed_name i.0.0.value)) wrote.before.before.text_at.ensures ∙ sym (ap (chosen (field_of a.s.now a.f)) i.1))
     wrote.write-literal-index.ensures
 
 same-length-3 : tie.Need-same-length-3
