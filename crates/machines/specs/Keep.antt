@@ -1,5 +1,5 @@
 -- Where a machine is kept.
-use Rattle.std.specs.Prelude.{ℕ, ◌<◌}
+use Rattle.std.specs.Prelude.{◌<◌}
 use Rattle.machines.specs.declared.keep.Place.{Place}
 use Rattle.machines.specs.declared.keep.Place.TheVariants.{At, Free, Full}
 
