@@ -1,20 +1,22 @@
-# The C library, its headers and the example host. `make` proves what is not proved yet and builds the library from the proved crates.
+# The C library, its headers and the example host. `make` proves what is not proved yet and builds the library, and `make gateway` the program, from the proved crates.
 PREFIX ?= /usr/local
 CC ?= cc
 CFLAGS ?= -O2
 WARNINGS = -std=c11 -Wall -Wextra -pedantic
 
 VERSION = 1.6.0
-LIBRARY = target/staticlib/libkolowrotan.a
+LIBRARY = target/lib/libkolowrotan.a
+GATEWAY = crates/gateway/out/gateway
 HEADERS = include/kolowrotan.h include/kolowrotan_list.h
 DIST = kolowrotan-$(VERSION)
-SOURCES := $(shell find crates -name '*.rt' -o -name '*.antt') crates.txt
+SOURCES := $(shell find crates -path 'crates/*/out' -prune -o \( -name '*.rt' -o -name '*.antt' \) -print) crates.txt
 
 all: $(LIBRARY)
 
 $(LIBRARY): $(SOURCES)
-	rt staticlib kolowrotan
-	touch $@
+	cd crates/kolowrotan_c && rt lib
+	mkdir -p target/lib
+	cp crates/kolowrotan_c/out/libkolowrotan_c.a $@
 
 # The example radio host.
 host: target/host/host
@@ -23,17 +25,17 @@ target/host/host: $(wildcard host/*.c host/*.h) $(HEADERS) $(LIBRARY)
 	mkdir -p target/host
 	$(CC) $(WARNINGS) $(CFLAGS) -Iinclude -o $@ host/*.c $(LIBRARY)
 
-# The program that bin/gateway runs.
-gateway: target/bin/gateway
+# The program that bin/gateway runs. `rt ci` leaves it there too.
+gateway: $(GATEWAY)
 
-target/bin/gateway: $(SOURCES)
-	rt check gateway
+$(GATEWAY): $(SOURCES)
+	cd crates/gateway && rt run -- --version > /dev/null
 	touch $@
 
-install: install-library target/bin/gateway
+install: install-library $(GATEWAY)
 	install -d $(DESTDIR)$(PREFIX)/bin $(DESTDIR)$(PREFIX)/libexec/kolowrotan $(DESTDIR)$(PREFIX)/share/kolowrotan
 	install -m 755 bin/gateway $(DESTDIR)$(PREFIX)/bin/
-	install -m 755 target/bin/gateway $(DESTDIR)$(PREFIX)/libexec/kolowrotan/
+	install -m 755 $(GATEWAY) $(DESTDIR)$(PREFIX)/libexec/kolowrotan/
 	install -m 644 crates/gateway/data/accident.rec $(DESTDIR)$(PREFIX)/share/kolowrotan/
 
 # What a C program needs.
@@ -59,6 +61,6 @@ dist: $(LIBRARY)
 	gzip -n target/dist/$(DIST).tar
 
 clean:
-	rm -rf target/host target/staticlib target/dist
+	rm -rf target/host target/lib target/dist
 
 .PHONY: all host gateway install install-library dist clean
