@@ -1,5 +1,7 @@
 // Prints the static table as the library has it, for a test against the table of another: an entry to a line, with its
 // index, its name and its value, and a tab between them.
+#![tactic(auto)]
+
 ghost use Rattle.std.specs.Prelude.{◌≡◌, ℕ, ◌≤◌};
 ghost use Rattle.statics.specs.Table.{last_static, static_text};
 
