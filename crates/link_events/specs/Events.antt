@@ -1,5 +1,5 @@
 -- What becomes of a call, and whether a refusal breaks the link (docs/RECORDINGS.md, "As the calls are made" and "Hours").
-use Rattle.std.specs.Prelude.{Bool, true, false, List, [], ◌∷◌, ℕ, eqb, ltb}
+use Rattle.std.specs.Prelude.{Bool, true, false, [], ◌∷◌, ℕ, eqb, ltb}
 use Rattle.memory.specs.Choice.{pick}
 use Rattle.integers.specs.Answers.{among}
 use Rattle.recording.specs.declared.Kind.{Kind}
