@@ -11,7 +11,7 @@ import urllib.request
 ROOT = os.path.dirname(os.path.dirname(os.path.abspath(__file__)))
 BENCH = os.path.join(ROOT, "bench")
 OUT = os.path.join(ROOT, "target", "bench")
-LIBRARY = os.path.join(ROOT, "target", "staticlib", "libkolowrotan.a")
+LIBRARY = os.path.join(ROOT, "target", "lib", "libkolowrotan.a")
 
 DIALECT = ["-std=c11", "-D_POSIX_C_SOURCE=200809L", "-Wall", "-Wextra", "-pedantic"]
 OPTIMIZED = ["-O2"]
@@ -35,7 +35,7 @@ def build_library():
         sys.exit("rt is missing, which builds the library; or name a library that is built by --library")
     say("building the library")
     with open(os.path.join(OUT, "library.log"), "w") as log:
-        subprocess.run(["rt", "staticlib", "kolowrotan"], cwd=ROOT, check=True, stdout=log, stderr=log)
+        subprocess.run(["make", "-s"], cwd=ROOT, check=True, stdout=log, stderr=log)
     return LIBRARY
 
 
@@ -138,7 +138,7 @@ def machine(versions):
     debian = {name: first_line(["dpkg-query", "-W", "-f", "${Version}", f"lib{name}-dev"]) for name in ["nghttp2", "nghttp3"]}
     lines = [f"- {models[0] if models else 'not known'}, {len(models)} processors, Linux {os.uname().release}",
              f"- {first_line(['cc', '--version'])}, {' '.join(OPTIMIZED)}; {first_line(['valgrind', '--version'])}",
-             f"- {first_line(['rt', '--version'])}; commit {first_line(['git', 'rev-parse', '--short', 'HEAD'])}"]
+             f"- {first_line(['rt', 'version'])}; commit {first_line(['git', 'rev-parse', '--short', 'HEAD'])}"]
     for name, version in versions.items():
         if name in debian:
             lines.append(f"- {name} {version}, Debian's static library, package {debian[name]}")
