@@ -1,2 +1,4 @@
 // The host's field list: read and measured.
+#![tactic(auto)]
+
 pub mod read;
