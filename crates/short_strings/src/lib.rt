@@ -1,2 +1,4 @@
 // Strings as most are: plain, with a length of one byte.
+#![tactic(auto)]
+
 pub mod short;
