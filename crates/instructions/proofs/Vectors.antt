@@ -5,8 +5,7 @@ use mathlib.Core.List.{List, [], ◌∷◌}
 use Prim.Native.Nat.{ℕ}
 use Rattle.integers.specs.Integer.{read_int, groups, int_wire, group_wire}
 use Rattle.huffman.specs.Codes.{codes, code_of}
-use Rattle.huffman.specs.Bits.{bits_of, value_of, bytes_of}
-use Rattle.huffman.specs.Packing.{code_bits, codes_of, codes_size, packed_size, pack}
+use Rattle.huffman.specs.Packing.{codes_size, packed_size}
 use Rattle.wire.specs.Text.{plain_place, text_at, string_bytes, string_after, string_end, read_string, all_bytes, packs, string_wire}
 use Rattle.wire.specs.Name.{Name, read_name, name_wire}
 use Rattle.stream_lists.specs.StreamList.{StreamList, read_delta, read_deltas, streams_from, read_list, deltas_wire, list_wire}

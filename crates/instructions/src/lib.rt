@@ -1,2 +1,4 @@
 // Instructions of the management stream, and the acknowledgements that come back, read.
+#![tactic(auto)]
+
 pub mod read;
