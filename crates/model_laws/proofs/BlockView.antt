@@ -138,6 +138,7 @@ here-name i j f flag value low false e h = (omega (arith, above-static j low e),
 -- and the other way round, in a block that can be said
 pub refers-back : (rs : List Representation) → AllFine rs → (i : ℕ) → machine.NamesSlot i (slot_items rs) → (61 < i) × Refers rs i
 unfolding slot_items slot_item block_references
+refers-back [] a i m = elim m [ ]
 refers-back (indexed j ∷ rs) a i m =
     ⊎_elim (λ h. let e = here-index i j (entry_field (entry_at j)) a.0.0 (is_static j) refl h in (e.0, Memᴰ.head (sym e.1)))
     (λ n. let r = refers-back rs a.1 i n in (r.0, Memᴰ.tail r.1)) (refers-cases (slot_item (indexed j)) (slot_items rs) i m)

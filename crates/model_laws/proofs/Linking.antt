@@ -190,5 +190,6 @@ pub record Place (x : Event) (xs : List Event) : Type 0 where
   pub eq : xs ≡ pre ++ (x ∷ post)
 
 pub place : (x : Event) (xs : List Event) → Memᴰ x xs → Place x xs
+place x [] e = elim e [ ]
 place x (y ∷ ys) (Memᴰ.head e) = record { pre = []; post = ys; eq = rw e }
 place x (y ∷ ys) (Memᴰ.tail m) = let p = place x ys m in record { pre = y ∷ p.pre; post = p.post; eq = ap (λ (l : List Event). y ∷ l) p.eq }

@@ -176,5 +176,6 @@ pub data NamesSlot (i : ℕ) : List Item → Type 0 where
 -- ---- where all are marked, each one is
 pub all-marked : (f : Marks) (ls : List StreamPart) (q : StreamPart) → all_marked f ls ≡ true → Memᴰ q ls → marked_at f q ≡ true
 unfolding all_marked
+all-marked f [] q h e = elim e [ ]
 all-marked f (x ∷ ls) q h (Memᴰ.head e) = rw e (and_both (marked_at f x) (all_marked f ls) h).0
 all-marked f (x ∷ ls) q h (Memᴰ.tail m) = all-marked f ls q (and_both (marked_at f x) (all_marked f ls) h).1 m

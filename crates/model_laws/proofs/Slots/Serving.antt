@@ -71,6 +71,7 @@ entry-waits g j (some c) a w = add-waits (g c) a w
 
 pub waits_if : (t : DecoderSlots) (b : List Item) (i : ℕ) → NamesSlot i b → entry_in (t i) ≡ none → Waiting (meaning t b)
 unfolding meaning on_entry
+waits_if t [] i e h = elim e [ ]
 waits_if t (by_index j ∷ b) i (names-index e) h = record { slot = j; equal = rw (e, h) }
 waits_if t (by_name j n v ∷ b) i (names-name e) h = record { slot = j; equal = rw (e, h) }
 waits_if t (given f ∷ b) i (names-later r) h = add-waits f (meaning t b) (waits_if t b i r h)
@@ -125,6 +126,7 @@ NumbersAbove k [] = Unit {0}
 NumbersAbove k (x ∷ m) = (k ≤ x.number) × NumbersAbove k m
 
 above-not : (k i : ℕ) (c : Entry) (m : List SentNote) → NumbersAbove k m → InsertUnread k i c m → ⊥
+above-not k i c [] a e = elim e [ ]
 above-not k i c (x ∷ m) a (inl h) = let p = a.0 in let q = h.0 in omega arith
 above-not k i c (x ∷ m) a (inr h) = above-not k i c m a.1 h
 

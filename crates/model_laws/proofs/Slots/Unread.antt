@@ -19,6 +19,7 @@ use Rattle.model_laws.proofs.Slots.Invariant.{Inserts, InsertUnread, NumbersBelo
 
 -- ---- one more at the end
 pub unread-snoc : (k i : ℕ) (c : Entry) (m n : List SentNote) → InsertUnread k i c m → InsertUnread k i c (m ++ n)
+unread-snoc k i c [] n e = elim e [ ]
 unread-snoc k i c (x ∷ m) n (inl h) = inl h
 unread-snoc k i c (x ∷ m) n (inr h) = inr (unread-snoc k i c m n h)
 
@@ -60,6 +61,7 @@ insert-about (note_delete k ls) i c d e h r = absurd h
 
 pub unread-empty : (k i : ℕ) (c : Entry) (m : List SentNote) (d e : DecoderSlot) → InsertUnread k i c m → Leads (messages i m) d e → entry_in d ≡ none
 unfolding messages
+unread-empty k i c [] d e f r = elim f [ ]
 unread-empty k i c (x ∷ m) d e (inl h) r =
     let s = leads-split (about i x.note) (messages i m) d e r in insert-about x.note i c d s.middle h.1 s.left
 unread-empty k i c (x ∷ m) d e (inr h) r =
