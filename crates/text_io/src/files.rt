@@ -1,7 +1,16 @@
 // The files that a program is run on.
 use crate::source::Source;
-use std::env::Env;
+use std::env::{Env, FillError};
 use std::{fs, str};
+
+// Is there an argument `i`?
+pub fn is_argument(rt: &HostRuntime, i: usize) -> bool {
+    let mut first = [0u8; 1];
+    match rt.arg(i, &mut first) {
+        Err(FillError::NotPresent) => false,
+        Ok(_) | Err(FillError::TooLong) => true,
+    }
+}
 
 // Opens the file that argument `i` names, `-` being the standard input; nothing where that cannot be done.
 pub fn open_argument(rt: &HostRuntime, i: usize) -> Option<Source> {
