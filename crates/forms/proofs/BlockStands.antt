@@ -1,7 +1,7 @@
 -- A representation that was read stands in the bytes as the writer that is told which strings to pack writes it, and so does a whole block.
 -- By cases along the equations of the readers, and the turns of `block_from`.
 use mathlib.Core.Path.{◌≡◌, refl, sym, subst, ◌∙◌}
-use Prim.Native.Nat.{ℕ, zero, suc, ◌+◌, ◌-◌, ◌*◌, ◌/◌, ◌^◌, ◌≤◌, ◌<◌}
+use Prim.Native.Nat.{ℕ, zero, suc, ◌+◌, ◌*◌, ◌/◌, ◌^◌, ◌≤◌, ◌<◌}
 use native.Mathlib.Omega.{arith}
 use native.Mathlib.Numerals.{sub-one}
 use mathlib.Core.List.{List, [], ◌∷◌, ◌++◌, append-nil}

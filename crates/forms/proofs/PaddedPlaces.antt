@@ -1,9 +1,6 @@
 -- A padded integer gets 19 in every place that one is read: each reader passes an integer's refusal on at once.
-use mathlib.Core.Path.{◌≡◌, refl, sym}
-use Prim.Native.Nat.{ℕ, ◌≤◌}
+use mathlib.Core.Path.{refl, sym}
 use native.Mathlib.Omega.{arith}
-use mathlib.Core.List.{List}
-use Rattle.integers.specs.Integer.{PaddedInt}
 use Rattle.integers.proofs.Padding.{padded-refused}
 use Rattle.wire.proofs.Strings.{string-refused, name-refused}
 use Rattle.stream_lists.proofs.ListLaws.{delta-refused, list-refused, count-refused}

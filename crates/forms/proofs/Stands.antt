@@ -13,7 +13,7 @@ use Rattle.memory.specs.Bytes.{part, Has, Small}
 use Rattle.memory.proofs.Order.{split, either}
 use Rattle.memory.proofs.Overlay.{small-part}
 use Rattle.memory.proofs.Places.{has_join, has_part, part-has, length_part}
-use Rattle.integers.specs.Integer.{value, read_int, int_wire}
+use Rattle.integers.specs.Integer.{read_int, int_wire}
 use Rattle.integers.proofs.Bounds.{int-good}
 use Rattle.integers.proofs.OneForm.{int-stands}
 use Rattle.huffman.specs.Packing.{Unpacked, whole, unpack, pack, packed_size}
