@@ -1,4 +1,6 @@
 // How many bytes things take on the wire, for the room that a call needs before it writes.
+#![tactic(auto)]
+
 ghost use Rattle.std.specs.Prelude.{◌≡◌, ◌+◌, ◌-◌, ◌^◌, ◌≤◌};
 ghost use Rattle.sizes.specs.Sizes.{groups_size, int_size, string_size, insert_index_size, insert_text_size, delete_size, literal_index_size, literal_text_size};
 
