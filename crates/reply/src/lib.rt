@@ -1,4 +1,6 @@
 // What a call answers: the number of document 01's table, and two told numbers.
+#![tactic(auto)]
+
 ghost use Rattle.std.specs.Prelude.{◌≡◌};
 ghost use Rattle.integers.specs.Answers.{done, refusal};
 ghost use Rattle.reply.specs.Reply.{answer_of, joined, Narrow};
