@@ -1,6 +1,6 @@
 -- Further facts of `model`'s Acceptance, computed here once: a collect or an enquiry looks at all 4,096 streams.
 use mathlib.Core.Path.{◌≡◌, refl}
-use mathlib.Core.List.{List, [], ◌∷◌}
+use mathlib.Core.List.{[], ◌∷◌}
 use Rattle.integers.specs.Answers.{done, refusal}
 use Rattle.model.specs.DecoderCalls.{collect, hold}
 use Rattle.model.specs.Encoder.{empty_list}

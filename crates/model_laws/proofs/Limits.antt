@@ -2,7 +2,6 @@
 -- By the ways of each call.
 use mathlib.Core.Path.{◌≡◌, refl}
 use Rattle.instructions.specs.Instruction.{insert, delete, acknowledge}
-use Rattle.model.specs.Outcome.{block}
 use Rattle.model.specs.Decoder.{Decoder, without}
 use Rattle.model.specs.DecoderCalls.{DecoderCall, decoder_call}
 use Rattle.model.specs.DecoderCalls as at-decoder

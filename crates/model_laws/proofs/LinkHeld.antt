@@ -14,7 +14,7 @@ use Rattle.fields.specs.Form.{Field}
 use Rattle.model.specs.Table.{Ascending, look, put, cut}
 use Rattle.model.specs.Parts.{Closing}
 use Rattle.model.specs.Outcome.{Output, nothing, instruction, block, fields, Outcome}
-use Rattle.model.specs.Decoder.{Decoder, Held, held_index, is_some, without, start_decoder}
+use Rattle.model.specs.Decoder.{Decoder, Held, held_index, is_some, without}
 use Rattle.model.specs.Encoder.{Encoder}
 use Rattle.model.specs.EncoderCalls.{EncoderCall, encoder_call}
 use Rattle.model.specs.EncoderCalls as at-encoder
@@ -23,10 +23,9 @@ use Rattle.model.specs.DecoderCalls.{DecoderCall, decoder_call}
 use Rattle.model.specs.Events.{LinkCall, encoder, decoder, Event, said, wrote, acknowledged, heard, offered}
 use Rattle.model.specs.Events.{freed, told, quiet, Ends, turn, said_by, wrote_by, encoder_event, freed_by, told_by, decoder_event}
 use Rattle.model.specs.Events as link
-use Rattle.model_laws.specs.Link.{held_by, held_from, held_after}
+use Rattle.model_laws.specs.Link.{held_by, held_from}
 use Rattle.model_laws.proofs.Tables.{pick-eq, look-put, look-cut}
 use Rattle.model_laws.proofs.DecoderWays as ways
-use Rattle.model_laws.proofs.Order.{decoder-order, inserts-any}
 
 -- the events one by one
 pub held-step : (h : Bool) (e : Event) (es : List Event) (i : ℕ) → held_from h (e ∷ es) i ≡ held_from (held_from h (e ∷ []) i) es i

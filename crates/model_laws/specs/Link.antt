@@ -9,10 +9,8 @@ use Rattle.fields.specs.Form.{Field, AllFine, list_form}
 use Rattle.instructions.specs.Instruction.{Instruction, insert, delete, acknowledge}
 use Rattle.blocks.specs.Representation.{Representation}
 use Rattle.blocks.specs.Meaning.{Refers}
-use Rattle.model.specs.Table.{look}
 use Rattle.model.specs.Parts.{over, ended}
 use Rattle.model.specs.Outcome.{Output, fields, start_answer}
-use Rattle.model.specs.Decoder.{held_index, is_some}
 use Rattle.model.specs.EncoderCalls as at-encoder
 use Rattle.model.specs.Events.{at, LinkCall, encoder, decoder, Event, said, wrote, acknowledged, heard, offered, freed, told, quiet, events, ends_after, fresh}
 use Rattle.model.specs.Events as link

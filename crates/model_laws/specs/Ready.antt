@@ -1,7 +1,7 @@
 -- A lemma on abstract data: what is ready and what a collect frees, of one state, for every state that forms one, so after every list of calls.
 -- The claim itself, on memory and bytes, is link/specs/Claims.antt.
 use Rattle.std.specs.Prelude.{◌≡◌, ◌↔◌, ℕ, ◌≤◌, ◌<◌, true, false, length}
-use Rattle.std.proofs.Math.Option.{none, some}
+use Rattle.std.proofs.Math.Option.{some}
 use mathlib.Core.List.{List, [], ◌∷◌, ◌++◌, Memᴰ}
 use Rattle.integers.specs.Answers.{no_room}
 use Rattle.instructions.specs.Instruction.{acknowledge, Manages, FineInstruction, instruction_wire}
