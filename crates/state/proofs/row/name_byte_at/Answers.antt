@@ -1,0 +1,7 @@
+use native.Mathlib.Omega.{arith}
+use Rattle.memory.specs.Numbers.{number}
+use Rattle.state.proofs.row.name_byte_at.Goals as goal
+
+pub returns : goal.returns
+unfolding number
+returns c = omega arith
