@@ -1,5 +1,3 @@
 -- The laws of `table_rows`: plain values, for the functions' proofs and the crates above.
 pub mod Stores
 pub mod Rows
-pub mod Updating
-pub mod Lending
