@@ -1,5 +1,6 @@
 // The rows of the table: put in and taken out, and the record of held size and count.
 #![tactic(auto)]
+
 ghost use Rattle.std.specs.Prelude.{◌≡◌, ℕ, ◌+◌, ◌-◌, ◌≤◌, ◌<◌, length, leb};
 ghost use Rattle.state.specs.Layout.{front_length, head_length, limit_of, held_of, count_of};
 ghost use Rattle.table_rows.specs.Rows.{offsets_opened, row_opened, offsets_closed, row_closed, recorded};
