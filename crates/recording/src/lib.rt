@@ -37,7 +37,7 @@ pub struct Call {
 }
 
 // Why a line is no call; `TooLong` is said of one that its reader does not hold.
-#[derive(Drop)]
+#[derive(Clone, Copy)]
 pub enum Fault {
     NoSuchCall,
     NoNumber,
