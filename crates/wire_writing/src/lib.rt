@@ -1,2 +1,4 @@
 // Strings and names, written.
+#![tactic(auto)]
+
 pub mod write;
