@@ -123,7 +123,7 @@ encoder-then : (before : Option ℕ) (ps : List TableEvent) (e : TableEvent)
     → encoder_table before (ps ++ (e ∷ [])) ≡ encoder_table (encoder_table before ps) (e ∷ [])
 unfolding encoder_table
 encoder-then before [] e = refl
-encoder-then before (encoder_started t limit r ∷ ps) e = encoder-then _ ps e
+encoder-then before (encoder_started t limit r ∷ ps) e = encoder-then (started t r before) ps e
 encoder-then before (decoder_started t limit r ∷ ps) e = encoder-then before ps e
 encoder-then before (TableEvent.of_table t d ∷ ps) e = encoder-then before ps e
 
@@ -132,7 +132,7 @@ decoder-then : (before : Option ℕ) (ps : List TableEvent) (e : TableEvent)
 unfolding decoder_table
 decoder-then before [] e = refl
 decoder-then before (encoder_started t limit r ∷ ps) e = decoder-then before ps e
-decoder-then before (decoder_started t limit r ∷ ps) e = decoder-then _ ps e
+decoder-then before (decoder_started t limit r ∷ ps) e = decoder-then (started t r before) ps e
 decoder-then before (TableEvent.of_table t d ∷ ps) e = decoder-then before ps e
 
 -- ---- the calls that belong to the table t, in their order
@@ -204,18 +204,18 @@ module _ (t : ℕ) (y z : Start) (es : List TableEvent) (R : TableRules es) wher
         (λ e. let k = own-call c (eqb-true u t e) A in rw e (ap₂ (λ (a : Event) (l : List Event). a ∷ l) k.0 (rest (turn T c).ends k.1)))
         (λ e. rw e (rest T (other-call c (eqb-false u t e) A)))
 
-  pub same-events : (ps : List TableEvent) (S T : Ends) (cs : List TableCall) → Along ps S T cs → events_of t (table_events S cs) ≡ events T (calls_of t cs)
+  pub same-events : (cs : List TableCall) (ps : List TableEvent) (S T : Ends) → Along ps S T cs → events_of t (table_events S cs) ≡ events T (calls_of t cs)
   unfolding table_events table_turn events_of calls_of events encoder_starts decoder_starts encoder_table decoder_table
-  same-events ps S T [] A = refl
-  same-events ps S T (encoder_start u limit m ∷ cs) A =
-      same-events _ _ T cs
+  same-events [] ps S T A = refl
+  same-events (encoder_start u limit m ∷ cs) ps S T A =
+      same-events cs _ _ T
       (along ps _ _ T cs A.whole
       (follows-start encoder_side t y _ ps _ _ (record { table = u; limit = limit; memory = m }) _
       (λ d s. R.encoder_new ps _ u _ _ _ _ A.whole d s.2 s.3) A.encoder)
       (follows-kept decoder_side t z _ ps _ _ _ _ A.decoder))
-  same-events ps S T (decoder_start u limit m ∷ cs) A =
-      same-events _ _ T cs
+  same-events (decoder_start u limit m ∷ cs) ps S T A =
+      same-events cs _ _ T
       (along ps _ _ T cs A.whole (follows-kept encoder_side t y _ ps _ _ _ _ A.encoder)
       (follows-start decoder_side t z _ ps _ _ (record { table = u; limit = limit; memory = m }) _
       (λ d s. R.decoder_new ps _ u _ _ _ _ A.whole d s.2 s.3) A.decoder))
-  same-events ps S T (TableCall.of_table u c ∷ cs) A = same-call ps S T u cs c A (λ X. same-events _ _ X cs)
+  same-events (TableCall.of_table u c ∷ cs) ps S T A = same-call ps S T u cs c A (λ X. same-events cs _ _ X)

@@ -107,15 +107,15 @@ module _ (t : ℕ) (z : Start) (b : Small z.memory) where
         → Opens encoder_side t z (table_events S cs) (opening encoder_side t z (encoder_starts cs))
     unfolding table_events table_turn encoder_starts
     encoder-opens S [] g = opens-none encoder_side t z b d
-    encoder-opens S (encoder_start u limit m ∷ cs) g = opens-start encoder_side t z _ (encoder_starts cs) _ g.0 (encoder-opens _ cs g.1)
-    encoder-opens S (decoder_start u limit m ∷ cs) g = opens-later encoder_side t z _ _ _ (encoder-opens _ cs g.1)
-    encoder-opens S (TableCall.of_table u c ∷ cs) g = opens-later encoder_side t z _ _ _ (encoder-opens _ cs g.1)
+    encoder-opens S (encoder_start u limit m ∷ cs) g = opens-start encoder_side t z _ (encoder_starts cs) _ g.0 (encoder-opens (table_turn S (encoder_start u limit m)).ends cs g.1)
+    encoder-opens S (decoder_start u limit m ∷ cs) g = opens-later encoder_side t z _ _ _ (encoder-opens (table_turn S (decoder_start u limit m)).ends cs g.1)
+    encoder-opens S (TableCall.of_table u c ∷ cs) g = opens-later encoder_side t z _ _ _ (encoder-opens (table_turn S (TableCall.of_table u c)).ends cs g.1)
 
   module _ (d : (decoder.start_call z.memory z.limit).answer.number ≡ 0) where
     pub decoder-opens : (S : Ends) (cs : List TableCall) → AllTableBytes cs
         → Opens decoder_side t z (table_events S cs) (opening decoder_side t z (decoder_starts cs))
     unfolding table_events table_turn decoder_starts
     decoder-opens S [] g = opens-none decoder_side t z b d
-    decoder-opens S (encoder_start u limit m ∷ cs) g = opens-later decoder_side t z _ _ _ (decoder-opens _ cs g.1)
-    decoder-opens S (decoder_start u limit m ∷ cs) g = opens-start decoder_side t z _ (decoder_starts cs) _ g.0 (decoder-opens _ cs g.1)
-    decoder-opens S (TableCall.of_table u c ∷ cs) g = opens-later decoder_side t z _ _ _ (decoder-opens _ cs g.1)
+    decoder-opens S (encoder_start u limit m ∷ cs) g = opens-later decoder_side t z _ _ _ (decoder-opens (table_turn S (encoder_start u limit m)).ends cs g.1)
+    decoder-opens S (decoder_start u limit m ∷ cs) g = opens-start decoder_side t z _ (decoder_starts cs) _ g.0 (decoder-opens (table_turn S (decoder_start u limit m)).ends cs g.1)
+    decoder-opens S (TableCall.of_table u c ∷ cs) g = opens-later decoder_side t z _ _ _ (decoder-opens (table_turn S (TableCall.of_table u c)).ends cs g.1)

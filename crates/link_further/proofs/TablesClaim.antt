@@ -116,7 +116,7 @@ module _ (S : Ends) (cs : List TableCall) (b : AllTableBytes cs) (R : TableRules
   same : events_of t es ≡ events ends (calls_of t cs)
   unfolding encoder_table decoder_table
   same =
-      same-events t no_encoder no_decoder es R [] S ends cs
+      same-events t no_encoder no_decoder es R cs [] S ends
       (record { whole = refl; encoder = follows-first encoder_side t no_encoder _ _ _ refl; decoder = follows-first decoder_side t no_decoder _ _ _ refl })
 
   table-served : Served (events_of t es)
