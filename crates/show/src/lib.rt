@@ -1,4 +1,6 @@
 // What was read, written to the standard output: what the programs share. No library that a host links uses it.
+#![tactic(auto)]
+
 ghost use Rattle.std.specs.Prelude.{◌≡◌, true, ℕ, ◌≤◌};
 ghost use Rattle.wire.specs.Text.{InString};
 ghost use Rattle.stream_lists.specs.StreamList.{horizon_limit};
