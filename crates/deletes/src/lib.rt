@@ -1,2 +1,4 @@
 // The decoder's deletes, kept and dropped.
+#![tactic(auto)]
+
 pub mod kept;
