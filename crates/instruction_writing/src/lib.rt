@@ -1,2 +1,4 @@
 // Instructions of the management stream and acknowledgements, written.
+#![tactic(auto)]
+
 pub mod write;
