@@ -1,2 +1,4 @@
 // The representations of header blocks, written.
+#![tactic(auto)]
+
 pub mod write;
