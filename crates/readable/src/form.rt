@@ -12,10 +12,7 @@ const TENTHS: u64 = 10;
 // The end of a line, which is written. Nothing is written behind a line that was lost.
 pub fn end_line(out: &mut [u8], t: Text) -> Text {
     if t.lost {
-        return Text {
-            used: 0,
-            lost: true,
-        };
+        return Text::lost(t.to);
     }
     let a = print::byte(out, t, b'\n');
     print::flush(out, a)

@@ -1,4 +1,6 @@
 // A field list in readable form, `machine: L-17, hours: 4100, turns: 2`, and words with numbers in them.
+#![tactic(auto)]
+
 ghost use Rattle.fields.specs.Reading.{InText};
 
 pub mod form;
