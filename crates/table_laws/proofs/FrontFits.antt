@@ -1,6 +1,6 @@
 -- The numbers of what a change leaves fit their fields: rows are put in, taken out or changed between rows that fit.
-use Prim.Native.Nat.{ℕ, suc, ◌+◌, ◌-◌, ◌≤◌, ◌<◌}
-use mathlib.Core.Path.{◌≡◌, refl, ap, subst}
+use Prim.Native.Nat.{ℕ, ◌+◌, ◌-◌, ◌≤◌, ◌<◌}
+use mathlib.Core.Path.{◌≡◌, ap, subst}
 use native.Mathlib.Omega.{arith}
 use mathlib.Core.List.{List, [], ◌∷◌, ◌++◌, map}
 use lib.Dec.{ltb}
@@ -8,7 +8,7 @@ use lib.ListN.{length, length-append}
 use Rattle.memory.proofs.Order.{pick-both}
 use Rattle.model.specs.Parts.{Marks}
 use Rattle.model.specs.Table.{size, total}
-use Rattle.state.specs.Rows.{Row, text_of, text_bytes, rows_size}
+use Rattle.state.specs.Rows.{Row, text_bytes, rows_size}
 use Rattle.state.specs.Front.{Front, with_rows, with_deletes, with_marks}
 use Rattle.state_laws.proofs.FrontHolds.{FineRow, FineRows, FineFront}
 use Rattle.state_laws.proofs.FrontLengths.{rows_size-text, rows_size-append, fine-append, fine-left, fine-right}

@@ -5,14 +5,14 @@ use native.Mathlib.Omega.{arith}
 use mathlib.Core.List.{List, [], ◌∷◌, ◌++◌, map, map-append, append_assoc}
 use lib.ListN.{length, length-append, length-map}
 use Rattle.memory.specs.Bytes.{part, overlay, Has}
-use Rattle.memory.proofs.Overlay.{length-overlay, overlay-append, overlay-comm, overlay-overlay, overlay-same}
-use Rattle.memory.proofs.Places.{has_left, has_right, has-overlay, has-below, has_part}
+use Rattle.memory.proofs.Overlay.{length-overlay, overlay-append, overlay-comm, overlay-overlay}
+use Rattle.memory.proofs.Places.{has_left, has_right, has-overlay, has_part}
 use Rattle.columns.specs.Columns.{column_bytes, column_opened, changed}
 use Rattle.columns.proofs.Columns.{length-column_bytes, column-opened, column-changed}
 use Rattle.columns.proofs.Within.{store-end}
 use Rattle.model.specs.Table.{size, total}
 use Rattle.state.specs.Layout.{indexes_place, offsets_place, name_lengths_place, statuses_place, text_place, before_first, offset_place, held_of, count_of, offset_at}
-use Rattle.state.specs.Rows.{Row, row_index, name_length, row_status, offsets_from, text_of, text_bytes, rows_size}
+use Rattle.state.specs.Rows.{Row, row_index, name_length, row_status, offsets_from, text_bytes, rows_size}
 use Rattle.state.specs.Front.{Front, with_rows, head_bytes, overlay_front}
 use Rattle.state_laws.proofs.FrontHolds.{FineFront, HoldsFront}
 use Rattle.state_laws.proofs.FrontLengths.{
@@ -30,26 +30,7 @@ use Rattle.table.specs.Changes.{text_opened, opened_at, opened, inserted}
 use Rattle.table_rows.specs.Rows.{recorded, offsets_opened, row_opened}
 use Rattle.table_laws.proofs.FrontFits.{new_row, insert-fits}
 use Rattle.table_laws.proofs.FrontStores.{recorded-is, record-head}
-use Rattle.table_laws.proofs.FrontSplice.{
-  count-two,
-  length_two,
-  offsets-two,
-  indexes_of,
-  offsets_of,
-  names_of,
-  statuses_of,
-  headed,
-  indexed,
-  offset,
-  named,
-  marked,
-  indexes-stand,
-  offsets-stand,
-  names_stand,
-  statuses-stand,
-  text-stands,
-  splice,
-}
+use Rattle.table_laws.proofs.FrontSplice.{count-two, length_two, offsets-two, indexes_of, headed, indexed, offset, named, marked, indexes-stand, offsets-stand, names_stand, statuses-stand, text-stands, splice}
 use Rattle.table_laws.proofs.FrontOpening.{start_is}
 
 module _ (f : Front) (m : List ℕ) (H : HoldsFront f m) (xs ys : List Row) (e : f.rows ≡ xs ++ ys) (index : ℕ) (name value : List ℕ)

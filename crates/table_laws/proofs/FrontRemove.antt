@@ -1,8 +1,8 @@
 -- An entry taken out of memory that holds a front is the front without it over that memory: the record, each column closed, and the text.
-use Prim.Native.Nat.{ℕ, suc, ◌+◌, ◌*◌, ◌-◌, ◌≤◌, ◌<◌}
+use Prim.Native.Nat.{ℕ, suc, ◌+◌, ◌*◌, ◌-◌, ◌≤◌}
 use mathlib.Core.Path.{◌≡◌, sym, ap, ap₂, subst, ◌∙◌}
 use native.Mathlib.Omega.{arith}
-use mathlib.Core.List.{List, [], ◌∷◌, ◌++◌, map, map-append}
+use mathlib.Core.List.{List, ◌∷◌, ◌++◌, map, map-append}
 use lib.ListN.{length, length-append, length-map}
 use Rattle.memory.specs.Bytes.{part, overlay, moved, Has}
 use Rattle.memory.proofs.Overlay.{length-overlay, overlay-overlay}

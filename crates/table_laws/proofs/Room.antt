@@ -1,7 +1,7 @@
 -- Where an entry keeps 4,096, one of the 128 places is left: the held size counts 32 for each entry.
 -- By the part of the test that adds the sizes up.
 use mathlib.Core.Path.{◌≡◌}
-use Prim.Native.Nat.{ℕ, ◌+◌, ◌*◌, ◌≤◌, ◌<◌}
+use Prim.Native.Nat.{ℕ, ◌*◌, ◌≤◌}
 use native.Mathlib.Omega.{arith}
 use mathlib.Core.Bool.{true}
 use mathlib.Core.List.{List}
