@@ -11,7 +11,7 @@ use Rattle.link_examples.specs.OrderCounts.{empty_block, wrote, out_of_turn}
 
 -- an entry at 62, and a delete of it that names both parts of stream 0
 abbrev pub delete_both : List ℕ
-delete_both = 0x3_e ∷ 0x01 ∷ 0x00 ∷ 0x01 ∷ 0x00 ∷ []
+delete_both = 0x3E ∷ 0x01 ∷ 0x00 ∷ 0x01 ∷ 0x00 ∷ []
 
 abbrev pub held_by_both : List DecoderCall
 held_by_both = read insert_9 ∷ read delete_both ∷ []
@@ -22,10 +22,10 @@ holds count stream = 0 ∷ count ∷ stream ∷ []
 
 -- an insert of an entry without name and value, at index 190 and at 2^27 − 1
 abbrev pub insert_190 : List ℕ
-insert_190 = 0xFF ∷ 0x3_f ∷ 0x00 ∷ 0x00 ∷ 0x00 ∷ []
+insert_190 = 0xFF ∷ 0x3F ∷ 0x00 ∷ 0x00 ∷ 0x00 ∷ []
 
 abbrev pub insert_largest : List ℕ
-insert_largest = 0xFF ∷ 0x80 ∷ 0xFF ∷ 0xFF ∷ 0x3_f ∷ 0x00 ∷ 0x00 ∷ 0x00 ∷ []
+insert_largest = 0xFF ∷ 0x80 ∷ 0xFF ∷ 0xFF ∷ 0x3F ∷ 0x00 ∷ 0x00 ∷ 0x00 ∷ []
 
 pub record BothParts (m : List ℕ) : Type 0 where
   -- "how many named parts are unfinished": two of one stream count twice

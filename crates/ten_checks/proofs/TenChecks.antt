@@ -122,11 +122,11 @@ module _ (m : List ℕ) (small : Small m) (ok : (start_call m 4096).answer.numbe
       past_below named_from checks
   agreed =
       let two =
-      ap (λ (l : List ℕ). 0xFF ∷ 0x00 ∷ 0xFF ∷ 0x80 ∷ 0xFF ∷ 0xFF ∷ 0x3_f ∷ l) (tells_is [] (read (0xFF ∷ 0x81 ∷ 0xFF ∷ 0xFF ∷ 0x3_f ∷ [])) refl refl) in
+      ap (λ (l : List ℕ). 0xFF ∷ 0x00 ∷ 0xFF ∷ 0x80 ∷ 0xFF ∷ 0xFF ∷ 0x3F ∷ l) (tells_is [] (read (0xFF ∷ 0x81 ∷ 0xFF ∷ 0xFF ∷ 0x3F ∷ [])) refl refl) in
       let four = ap₂ (λ (l : List ℕ) (n : ℕ). l ++ (n ∷ h9)) (tells_is [] (read h9) refl refl) (held-is m small 4096 ok after4 refl) in
       let five = tells_is after4 (block (0xBE ∷ 0x82 ∷ []) 18) refl refl in
       let six = tells_is [] (block (0xBE ∷ 0x82 ∷ []) 18) refl refl in
-      let seven = tells_is after4 (block (0x7_e ∷ 0x01 ∷ 0x37 ∷ []) 5) refl refl in
+      let seven = tells_is after4 (block (0x7E ∷ 0x01 ∷ 0x37 ∷ []) 5) refl refl in
       let eight =
       ap₂ ◌++◌ (ap₂ ◌++◌ (ap (λ (l : List ℕ). 0 ∷ 1 ∷ 2 ∷ 4 ∷ 7 ∷ l) (tells_is (named8 0) (hold 62) refl refl)) (tells_is (named8 3) (hold 62) refl refl))
       (tells_is (named8 5) (hold 62) refl refl) in

@@ -90,11 +90,11 @@ abbrev pub past4 : List DecoderCall
 past4 = read h9 ∷ past_below 5
 
 abbrev pub delete62 : List ℕ
-delete62 = 0x3_e ∷ 0x05 ∷ 0x00 ∷ 0x00 ∷ 0x00 ∷ []
+delete62 = 0x3E ∷ 0x05 ∷ 0x00 ∷ 0x00 ∷ 0x00 ∷ []
 
 -- number 8's delete of 62 with its list, and the calls that read it, with the streams below n past their non-trailer part
 abbrev pub delete_list : List ℕ
-delete_list = 0x3_e ∷ 0x03 ∷ 0x02 ∷ 0x01 ∷ 0x03 ∷ 0x00 ∷ 0x00 ∷ []
+delete_list = 0x3E ∷ 0x03 ∷ 0x02 ∷ 0x01 ∷ 0x03 ∷ 0x00 ∷ 0x00 ∷ []
 
 abbrev pub named8 : ℕ → List DecoderCall
 named8 n = read h9 ∷ read delete_list ∷ past_below n
@@ -102,28 +102,28 @@ named8 n = read h9 ∷ read delete_list ∷ past_below n
 unfoldable pub checks : List ℕ → List Check
 checks m =
     -- 1. "10 and 1337 with a 5-bit prefix are 0A and 1F 9A 0A; 42 with 8 bits is 2A"
-    check 1 (int_wire 5 0 10 ++ int_wire 5 0 1337 ++ int_wire 8 0 42) (0x0_a ∷ 0x1_f ∷ 0x9_a ∷ 0x0_a ∷ 0x2_a ∷ []) ∷
+    check 1 (int_wire 5 0 10 ++ int_wire 5 0 1337 ++ int_wire 8 0 42) (0x0A ∷ 0x1F ∷ 0x9A ∷ 0x0A ∷ 0x2A ∷ []) ∷
     -- 2. "Insert index 127: starts FF 00. Index 134,217,727: FF 80 FF FF 3F. FF 81 FF FF 3F gives 3."
     check 2
     (take 2 (instruction_wire (insert 127 (literal []) [])) ++ take 5 (instruction_wire (insert 134217727 (literal []) []))
-    ++ tells m [] (read (0xFF ∷ 0x81 ∷ 0xFF ∷ 0xFF ∷ 0x3_f ∷ [])))
-    (0xFF ∷ 0x00 ∷ 0xFF ∷ 0x80 ∷ 0xFF ∷ 0xFF ∷ 0x3_f ∷ 3 ∷ 0 ∷ 0 ∷ []) ∷
+    ++ tells m [] (read (0xFF ∷ 0x81 ∷ 0xFF ∷ 0xFF ∷ 0x3F ∷ [])))
+    (0xFF ∷ 0x00 ∷ 0xFF ∷ 0x80 ∷ 0xFF ∷ 0xFF ∷ 0x3F ∷ 3 ∷ 0 ∷ 0 ∷ []) ∷
     -- 3. "Delete 62 starts 3E, delete 63 starts 3F 00. Acknowledgements: 7E, 7F 00."
     check 3
     (take 1 (instruction_wire (delete 62 (empty_list 0) (empty_list 0))) ++ take 2 (instruction_wire (delete 63 (empty_list 0) (empty_list 0)))
     ++ instruction_wire (acknowledge 62) ++ instruction_wire (acknowledge 63))
-    (0x3_e ∷ 0x3_f ∷ 0x00 ∷ 0x7_e ∷ 0x7_f ∷ 0x00 ∷ []) ∷
+    (0x3E ∷ 0x3F ∷ 0x00 ∷ 0x7E ∷ 0x7F ∷ 0x00 ∷ []) ∷
     -- 4. "BE 00 01 68 01 39 inserts h = 9 at 62, size 34." Six bytes are taken, the held size stored is then 34, and this insert is written so. That a
     -- block which names 62 then gives h = 9 is number 5.
     check 4 (tells m [] (read h9) ++ (held_of (since m 4096 after4) ∷ instruction_wire (insert 62 (literal (0x68 ∷ [])) (0x39 ∷ []))))
     (0 ∷ 6 ∷ 0 ∷ 34 ∷ h9) ∷
     -- 5. "After 4, block BE 82 gives the list, whole: 00 01 68 01 39 00 07 3A 6D 65 74 68 6F 64 03 47 45 54."
     check 5 (tells m after4 (block (0xBE ∷ 0x82 ∷ []) 18))
-    (0 ∷ 18 ∷ 0 ∷ 0x00 ∷ 0x01 ∷ 0x68 ∷ 0x01 ∷ 0x39 ∷ 0x00 ∷ 0x07 ∷ 0x3_a ∷ 0x6_d ∷ 0x65 ∷ 0x74 ∷ 0x68 ∷ 0x6_f ∷ 0x64 ∷ 0x03 ∷ 0x47 ∷ 0x45 ∷ 0x54 ∷ []) ∷
+    (0 ∷ 18 ∷ 0 ∷ 0x00 ∷ 0x01 ∷ 0x68 ∷ 0x01 ∷ 0x39 ∷ 0x00 ∷ 0x07 ∷ 0x3A ∷ 0x6D ∷ 0x65 ∷ 0x74 ∷ 0x68 ∷ 0x6F ∷ 0x64 ∷ 0x03 ∷ 0x47 ∷ 0x45 ∷ 0x54 ∷ []) ∷
     -- 6. "Before 4 the same block gives 1 with index 62."
     check 6 (tells m [] (block (0xBE ∷ 0x82 ∷ []) 18)) (1 ∷ 62 ∷ 0 ∷ []) ∷
     -- 7. "After 4, 7E 01 37 gives 01 01 68 01 37."
-    check 7 (tells m after4 (block (0x7_e ∷ 0x01 ∷ 0x37 ∷ []) 5)) (0 ∷ 5 ∷ 0 ∷ 0x01 ∷ 0x01 ∷ 0x68 ∷ 0x01 ∷ 0x37 ∷ []) ∷
+    check 7 (tells m after4 (block (0x7E ∷ 0x01 ∷ 0x37 ∷ []) 5)) (0 ∷ 5 ∷ 0 ∷ 0x01 ∷ 0x01 ∷ 0x68 ∷ 0x01 ∷ 0x37 ∷ []) ∷
     -- 8. "List 03 02 01 03 names 0, 1, 2, 4 and 7, not 3." All the streams that it names, from the bytes of a delete with this list; and what the hold
     -- enquiry tells of it: five parts hold the entry, with streams 0 to 2 past two from 4 on, with 3 and 4 past too one, 7
     check 8

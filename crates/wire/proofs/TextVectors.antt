@@ -18,6 +18,6 @@ pub packed : (read_string (0x82 ∷ 0x18 ∷ 0xC0 ∷ []) 0 1 ≡ Refused 13)
     × (read_string (0x82 ∷ 0x18 ∷ []) 0 1 ≡ Refused 2)
     × (read_string (0x86 ∷ 0xFF ∷ 0xFF ∷ 0xFF ∷ 0xFC ∷ 0x00 ∷ 0x00 ∷ []) 0 2 ≡ Refused 18)
     × (read_string (0x80 ∷ []) 0 0 ≡ Found (record { start = 1; size = 0; packed = true; length = 0 }) 1)
-    × (read_string (0x81 ∷ 0x1_f ∷ []) 0 1 ≡ Found (record { start = 1; size = 1; packed = true; length = 1 }) 2)
+    × (read_string (0x81 ∷ 0x1F ∷ []) 0 1 ≡ Found (record { start = 1; size = 1; packed = true; length = 1 }) 2)
 unfolding read_int groups codes code_of bits_of bits begins standing_in standing padding unpack_bits unpack text_at string_end string_after read_string
 packed = (refl, refl, refl, refl, refl, refl, refl, refl)
