@@ -2,6 +2,7 @@
 use crate::tally::{Count, Tally};
 use link_events::ends::Ends;
 use text_io::print::Text;
+use text_io::stream::Stream;
 
 #[derive(Drop)]
 pub struct Log {
@@ -11,11 +12,12 @@ pub struct Log {
 }
 
 impl Log {
-    pub fn new() -> Log {
+    // Nothing told yet; its text goes to this stream.
+    pub fn new(to: Stream) -> Log {
         Log {
             ends: Ends::new(),
             tally: Tally::new(),
-            text: Text::new(),
+            text: Text::new(to),
         }
     }
 
