@@ -17,7 +17,7 @@ use Rattle.integers.specs.declared.number.TableIndex.{TableIndex}
 use Rattle.fields.specs.Form.{Field}
 use Rattle.blocks.specs.Representation.{indexed, literal}
 use Rattle.model.specs.Table.{first}
-use Rattle.model.specs.Encoder.{Sent, sent_index, serves, serves_both, dynamic_name, static_name, choose_name, dynamic_field, static_field, choose}
+use Rattle.model.specs.Encoder.{Sent, serves, serves_both, dynamic_name, static_name, choose_name, dynamic_field, static_field, choose}
 use Rattle.model_laws.proofs.Marks.{and_both}
 use Rattle.model_laws.proofs.Tables.{pick_yes, pick_no}
 use Rattle.state.specs.Layout.{encoder_length, encoder_role, count_of, delete_count, index_at}

@@ -1,5 +1,5 @@
 -- The references of a written block entered: "Each horizon is one more than the highest stream whose block of that kind refers to the entry".
-use Rattle.std.specs.Prelude.{ℕ, ◌≤◌, ◌≡◌, true, List, [], map, ltb}
+use Rattle.std.specs.Prelude.{ℕ, ◌≤◌, ◌≡◌, true, List, map, ltb}
 use Rattle.memory.specs.Choice.{pick}
 use Rattle.wire.specs.Name.{indexed as by_index, literal as by_bytes}
 use Rattle.blocks.specs.Representation.{Representation, indexed, literal}
