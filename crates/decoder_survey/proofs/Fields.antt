@@ -24,7 +24,7 @@ use Rattle.state.specs.DecoderState.{decoder_of}
 use Rattle.entry_places.specs.Place.{locate, Here}
 use Rattle.entry_places.specs.declared.place.EntryPlace.{EntryPlace}
 use Rattle.entry_places.specs.declared.place.EntryPlace.TheVariants.{Static, Dynamic, Nowhere}
-use Rattle.decoder_survey.specs.declared.measure.Measured.TheVariants.{Bytes, Waits}
+use Rattle.decoder_survey.specs.declared.measure.Measured.TheVariants.{Bytes}
 use Rattle.decoder_survey.specs.Measure.{Stands, field_meant, field_at, IsField, field_bytes, field_measured}
 use Rattle.decoder_survey.proofs.Entries.{entry_of, slot_of, Located, located}
 
