@@ -1,2 +1,4 @@
 // The encoder's acknowledge call: an acknowledgement read.
+#![tactic(auto)]
+
 pub mod acknowledge;
