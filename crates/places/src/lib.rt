@@ -1,1 +1,2 @@
 // No code: an insert that keeps the limit finds fewer than 128 places held.
+#![tactic(auto)]
