@@ -1,1 +1,2 @@
 // No code: what the encoder writes reads back.
+#![tactic(auto)]
