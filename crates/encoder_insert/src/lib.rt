@@ -1,2 +1,4 @@
 // The encoder's insert call.
+#![tactic(auto)]
+
 pub mod insert;
