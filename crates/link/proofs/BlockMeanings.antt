@@ -21,11 +21,10 @@ use Rattle.blocks.specs.Meaning.{BlockMeaning, with_statics, list, block_meaning
 use Rattle.blocks.specs.Meaning as meaning
 use Rattle.blocks.proofs.Told.{block_refusals, BlockTold, block-told}
 use Rattle.model.specs.Parts.{Part, part_of, in_turn, streams}
-use Rattle.model.specs.Outcome.{Outcome, output_bytes, fields}
+use Rattle.model.specs.Outcome.{Outcome, output_bytes}
 use Rattle.model.specs.Decoder.{Decoder, lookup, give_fields, decode_part, decode_block}
 use Rattle.model.specs.DecoderCalls.{decoder_call}
 use Rattle.model.specs.DecoderCalls as at-decoder
-use Rattle.model_laws.proofs.Tables.{nope}
 use Rattle.model_laws.proofs.DecoderHistory.{contents_of}
 use Rattle.model_laws.proofs.Answers.{decoder_refused, decoded-told}
 use Rattle.parts.specs.Turn.{part_turn}

@@ -24,11 +24,11 @@ use Rattle.blocks.specs.Reading.{BlockRead, read_block}
 use Rattle.blocks.specs.Reading as blocks
 use Rattle.model.specs.Table.{look, total}
 use Rattle.model.specs.Parts.{part_of, Marks, no_marks, Delete}
-use Rattle.model.specs.Outcome.{Outcome, output_bytes}
+use Rattle.model.specs.Outcome.{output_bytes}
 use Rattle.model.specs.Decoder.{Decoder, held_size, slot_in, delete_of, start_decoder, ready, FormsDecoder}
 use Rattle.model.specs.DecoderCalls.{decoder_call, after_decoder}
 use Rattle.model.specs.DecoderCalls as at-decoder
-use Rattle.model.specs.Happened.{Happened, done_by, after, held_by, deletion_by, Contents, empty, is_held, contents_by, added_by, removed_by, sum_of}
+use Rattle.model.specs.Happened.{Happened, done_by, after, held_by, deletion_by, Contents, empty, is_held, added_by, removed_by, sum_of}
 use Rattle.model_laws.proofs.Forms.{freed-held}
 use Rattle.model_laws.proofs.DecoderWays.{collect-ways}
 use Rattle.model_laws.proofs.DecoderHistory.{wrote_that, did_by, did_since, contents_of, Told, told-calls}
@@ -40,7 +40,6 @@ use Rattle.state.specs.DecoderState.{decoder_of}
 use Rattle.state.specs.Forms.{forms_decoder}
 use Rattle.state_laws.proofs.DecoderLaws.{decoder-laws}
 use Rattle.parts.specs.Turn.{part_turn}
-use Rattle.reply.specs.Result.{Result}
 use Rattle.decoder.specs.Calls.{start_call}
 use Rattle.link.specs.Calls.{DecoderCall, decoder_result, AllDecoderBytes, decoder_after, done_bytes}
 use Rattle.link.specs.Calls as calls

@@ -14,7 +14,6 @@ use Rattle.memory.proofs.Order.{pick-both, need-both, need-true}
 use Rattle.integers.specs.Answers.{refusal, done, over_limit, no_room, out_of_turn}
 use Rattle.wire.proofs.TextBounds.{string-bytes-small}
 use Rattle.wire.specs.Name.{name_of}
-use Rattle.wire.specs.declared.text.StringPlace.{StringPlace}
 use Rattle.wire.specs.declared.name.NamePlace.{NamePlace}
 use Rattle.wire.specs.declared.name.NamePlace.TheVariants.{Index, Text}
 use Rattle.instructions.specs.Reading.{read_for_decoder, on_instruction, instruction_of}

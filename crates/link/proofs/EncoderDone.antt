@@ -17,7 +17,7 @@ use Rattle.fields.specs.Reading.{FieldListRead, read_field_list}
 use Rattle.fields.specs.Reading as lists
 use Rattle.fields.proofs.Lists.{list-forth}
 use Rattle.fields.proofs.Walk.{list-number}
-use Rattle.instructions.specs.Instruction.{insert, delete, instruction_wire}
+use Rattle.instructions.specs.Instruction.{insert, instruction_wire}
 use Rattle.blocks.specs.Representation.{block_wire}
 use Rattle.blocks.specs.Reading.{block, read_block}
 use Rattle.blocks.proofs.Back.{block_back}
@@ -30,7 +30,6 @@ use Rattle.model_laws.proofs.EncoderWays.{insert-ways, delete-ways, block-ways}
 use Rattle.model_laws.proofs.Answers.{encoder_refused, inserted-told, deleted-told, encoded-told}
 use Rattle.model_laws.proofs.Saying.{choices-fine}
 use Rattle.reply.specs.Result.{Result}
-use Rattle.encoder.specs.Calls as encoder
 use Rattle.link.specs.Calls.{EncoderCall, encoder_result, EncoderBytes, done_bytes}
 use Rattle.link.specs.Calls as calls
 use Rattle.link.proofs.Lifted.{StandsEncoder, LiftedEncoder, read_list_call, encoder_call_of}

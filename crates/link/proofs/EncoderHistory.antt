@@ -9,11 +9,10 @@ use mathlib.Core.List.{List, [], map}
 use Rattle.memory.specs.Bytes.{Small}
 use Rattle.fields.specs.Reading.{read_field_list}
 use Rattle.instructions.specs.Instruction.{delete, instruction_wire}
-use Rattle.blocks.specs.Reading.{block}
 use Rattle.model.specs.Table.{Ascending, look, vacant_from}
 use Rattle.model.specs.Parts.{Part, nontrailer, trailer, part_of, no_marks}
 use Rattle.model.specs.Decoder.{is_some}
-use Rattle.model.specs.Encoder.{Encoder, Sent, sent_index, sent_size, start_encoder, choose_name, choose, empty_list}
+use Rattle.model.specs.Encoder.{Encoder, Sent, sent_index, start_encoder, choose_name, choose, empty_list}
 use Rattle.model.specs.EncoderCalls.{after_encoder}
 use Rattle.model.specs.Happened.{Happened, after, held_by, empty, added_by, removed_by, sum_of}
 use Rattle.model_laws.specs.History as model

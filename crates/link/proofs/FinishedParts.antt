@@ -1,26 +1,24 @@
 -- The parts that are finished by calls and answers are those of the table, and the hold enquiry's answer is what they, and what is held and deleted, say.
 -- By the ways of each call, then over the calls.
-use mathlib.Core.Path.{◌≡◌, refl, sym, ap, ◌∙◌}
+use mathlib.Core.Path.{◌≡◌, refl, ap, ◌∙◌}
 use Prim.Native.Nat.{ℕ}
-use native.Mathlib.Omega.{arith}
 use mathlib.Core.Bool.{Bool, true, false}
 use mathlib.Core.Option.{Option, none, some}
 use mathlib.Core.List.{List, [], ◌∷◌}
 use lib.ListN.{length}
-use lib.Dec.{T, eqb, leb}
+use lib.Dec.{eqb, leb}
 use borrow.Author.Tests.{ne_eqb}
 use Rattle.memory.specs.Choice.{pick, need}
 use Rattle.memory.proofs.Order.{pick-false}
-use Rattle.integers.specs.Answers.{Answer, refusal, among, out_of_turn, not_allowed, vacant}
+use Rattle.integers.specs.Answers.{Answer, refusal, out_of_turn, not_allowed, vacant}
 use Rattle.integers.specs.Integer.{largest}
-use Rattle.integers.proofs.Told.{One}
 use Rattle.instructions.specs.Instruction.{Instruction, insert, delete, acknowledge}
 use Rattle.instructions.specs.Reading.{read_for_decoder, on_instruction, instruction_of}
 use Rattle.instructions.specs.declared.read.InstructionRead.{InstructionRead}
 use Rattle.instructions.specs.declared.read.InstructionRead.TheVariants.{Found, Refused}
 use Rattle.blocks.specs.Reading.{BlockRead, read_block}
 use Rattle.blocks.specs.Reading as blocks
-use Rattle.blocks.proofs.Told.{block_refusals, BlockTold, block-told}
+use Rattle.blocks.proofs.Told.{BlockTold, block-told}
 use Rattle.model.specs.Table.{look}
 use Rattle.model.specs.Parts.{Part, part_of, Marks, closed, Delete}
 use Rattle.model.specs.Outcome.{Outcome, refuse}
@@ -35,7 +33,7 @@ use Rattle.reply.specs.Result.{Result}
 use Rattle.link.specs.Calls.{DecoderCall, decoder_result, AllDecoderBytes, decoder_after}
 use Rattle.link.specs.Calls as calls
 use Rattle.link.specs.Histories.{finishes, finished_by, finished_after, hold_told, hold_answer}
-use Rattle.link.proofs.Lifted.{StandsDecoder, LiftedDecoder, read_block_call, decoder_call_of}
+use Rattle.link.proofs.Lifted.{StandsDecoder, read_block_call, decoder_call_of}
 use Rattle.link.proofs.DecoderLifting.{lift-decoder}
 use Rattle.link.proofs.Runs.{decoder_calls_of}
 

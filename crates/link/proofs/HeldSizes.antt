@@ -1,16 +1,10 @@
 -- The held size that stands in memory is that of the state it stands for. By the laws of the front.
-use mathlib.Core.Path.{◌≡◌, refl, sym, ap, ◌∙◌}
+use mathlib.Core.Path.{◌≡◌, sym, ap, ◌∙◌}
 use Prim.Native.Nat.{ℕ}
-use mathlib.Core.Option.{Option, some}
-use mathlib.Core.List.{List, [], ◌∷◌, map}
-use Rattle.model.specs.Table.{look}
-use Rattle.model.specs.Parts.{Part, nontrailer, trailer}
+use mathlib.Core.List.{List, map}
 use Rattle.model.specs.Decoder.{Decoder, held_size}
-use Rattle.model.specs.Encoder.{Encoder, Sent, sent_index, sent_size}
-use Rattle.model_laws.specs.History.{horizon_of}
-use Rattle.model_laws.proofs.Tables.{nope, pick-eq}
-use Rattle.state.specs.Layout.{held_of, count_of}
-use Rattle.state.specs.Rows.{Row, rows_of}
+use Rattle.model.specs.Encoder.{Encoder, sent_size}
+use Rattle.state.specs.Layout.{held_of}
 use Rattle.state.specs.DecoderState.{decoder_of, row_of_held, decoder_front}
 use Rattle.state.specs.EncoderState.{encoder_of, encoder_front}
 use Rattle.state_laws.proofs.FrontRead.{read_held}

@@ -1,8 +1,7 @@
 -- A read answered "done" did what its slots allow: an insert found its index empty, a delete found its entry held and not under deletion.
 -- By the ways of the model's call.
-use mathlib.Core.Path.{◌≡◌, refl, sym, ap, ◌∙◌}
+use mathlib.Core.Path.{◌≡◌, sym, ap, ◌∙◌}
 use Prim.Native.Nat.{ℕ}
-use mathlib.Core.Bool.{true, false}
 use mathlib.Core.Option.{Option}
 use mathlib.Core.List.{List, []}
 use borrow.Author.Tests.{eqb-false}
@@ -12,9 +11,8 @@ use Rattle.instructions.specs.Instruction.{Instruction, insert, delete, acknowle
 use Rattle.instructions.specs.Reading.{read_for_decoder, on_instruction, instruction_of}
 use Rattle.instructions.specs.declared.read.InstructionRead.{InstructionRead}
 use Rattle.instructions.specs.declared.read.InstructionRead.TheVariants.{Found, Refused}
-use Rattle.model.specs.Table.{look}
 use Rattle.model.specs.Outcome.{Outcome}
-use Rattle.model.specs.Decoder.{Decoder, Held, held_index, slot_in, delete_of}
+use Rattle.model.specs.Decoder.{Decoder, Held, slot_in, delete_of}
 use Rattle.model.specs.DecoderCalls.{decoder_call}
 use Rattle.model.specs.DecoderCalls as at-decoder
 use Rattle.model.specs.Happened.{done_by, is_held}

@@ -23,10 +23,9 @@ use Rattle.reply.specs.Result.{Result}
 use Rattle.link.specs.Calls as calls
 use Rattle.link.specs.Claims.{Event, Written, written_in, Accepted, NontrailersDone, Rules, Managed, Acknowledges}
 -- what the rules refuse is shown before anything is shown from them
-use Rattle.link.proofs.BrokenRules as refused
 use Rattle.link.proofs.Steps.{Unreadable, Step, byte_of, model_of, bytes, modelled, OfferStep, ByteTold, byte-told, OfferedStep, ModelTold, model-told}
 use Rattle.link.proofs.StepHistories.{alike, alike-model, alike-bytes}
-use Rattle.link.proofs.StepBorders.{Split, split_steps, events-around, next-read, heard-next, acknowledgements, acked-next, at-acknowledge}
+use Rattle.link.proofs.StepBorders.{Split, split_steps, events-around, next-read, heard-next, acked-next, at-acknowledge}
 
 -- ---- the other side of an event
 pub told-by-bytes : (st : Step) (e : Event) → byte_of st ≡ e → ByteTold e (model_of st)

@@ -16,7 +16,6 @@ use Rattle.blocks.specs.Reading.{block, read_block}
 use Rattle.blocks.specs.Meaning.{Refers}
 use Rattle.model.specs.Outcome.{Output, output_bytes}
 use Rattle.model.specs.Outcome as outcome
-use Rattle.model.specs.Events as events
 use Rattle.model.specs.Events.{at}
 use Rattle.model_laws.specs.Link as model
 use Rattle.model_laws.proofs.Tables.{nope}

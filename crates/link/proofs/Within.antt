@@ -1,7 +1,7 @@
 -- From a start the held size stays within the limit that the start was given, at both ends: an insert is done only where it keeps the limit, and nothing
 -- else adds an entry or changes the limit. By the ways of each call, then over the calls.
 use mathlib.Core.Path.{◌≡◌, refl, ap, ◌∙◌}
-use Prim.Native.Nat.{ℕ, ◌+◌, ◌≤◌}
+use Prim.Native.Nat.{ℕ, ◌≤◌}
 use native.Mathlib.Omega.{arith}
 use mathlib.Core.List.{List, [], ◌∷◌}
 use Rattle.memory.specs.Bytes.{Small}

@@ -1,6 +1,6 @@
 -- What is claimed of each table by the history of its calls: what it holds, what is under deletion, the held size, which blocks are in turn; at the
 -- encoder that lowest means lowest, and what a written delete says.
-use Rattle.std.specs.Prelude.{◌≡◌, ◌↔◌, ◌⊎◌, ℕ, suc, ◌+◌, ◌≤◌, ◌<◌, max, Bool, true, false, ◌&&◌, List, [], ◌∷◌, eqb, leb}
+use Rattle.std.specs.Prelude.{◌≡◌, ◌↔◌, ◌⊎◌, ℕ, suc, ◌+◌, ◌≤◌, max, Bool, true, false, ◌&&◌, List, [], ◌∷◌, eqb, leb}
 use Rattle.std.proofs.Math.Option.{Option, none, some}
 use Rattle.memory.specs.Choice.{pick, need}
 use Rattle.memory.specs.Bytes.{Small}
