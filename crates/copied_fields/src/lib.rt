@@ -1,2 +1,4 @@
 // Fields whose bytes stand in order already, copied into the host's list.
+#![tactic(auto)]
+
 pub mod write;
