@@ -1,1 +1,2 @@
 // No code: document 01's ten checks.
+#![tactic(auto)]
