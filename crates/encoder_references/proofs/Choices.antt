@@ -20,11 +20,11 @@ use Rattle.blocks.specs.Representation.{Representation, indexed, literal}
 use Rattle.blocks.specs.Meaning.{block_references}
 use Rattle.model.specs.Table.{first}
 use Rattle.model.specs.Parts.{Part, nontrailer, trailer, streams}
-use Rattle.model.specs.Encoder.{Sent, sent_index, Encoder, mentions, referred, refer, serves, serves_both}
+use Rattle.model.specs.Encoder.{Sent, Encoder, mentions, referred, refer, serves, serves_both}
 use Rattle.model.specs.Encoder.{dynamic_name, static_name, choose_name, dynamic_field, static_field, choose}
 use Rattle.model_laws.proofs.Order.{refer-index}
 use Rattle.model_laws.proofs.SentChanges.{refer-entry}
-use Rattle.state.specs.EncoderState.{encoder_of, overlay_encoder}
+use Rattle.state.specs.EncoderState.{encoder_of}
 use Rattle.state.specs.Forms.{forms_encoder}
 use Rattle.state_laws.proofs.EncoderLaws.{encoder-laws}
 use Rattle.state_laws.proofs.EncoderForms.{forms-holds-encoder}
