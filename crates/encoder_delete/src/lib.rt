@@ -1,2 +1,4 @@
 // The encoder's delete call.
+#![tactic(auto)]
+
 pub mod delete;
