@@ -3,7 +3,7 @@
 use Rattle.std.specs.Prelude.{Bool, true, false, List, ℕ, zero, suc, ◌+◌, ◌-◌, ◌/◌, ◌%◌, eqb, ltb, get_or}
 use Rattle.memory.specs.Choice.{pick}
 use Rattle.falling_hours.specs.declared.falls.Found.{Found}
-use Rattle.falling_hours.specs.declared.falls.Found.TheVariants.{On, Nothing as None}
+use Rattle.falling_hours.specs.declared.falls.Found.TheVariants.{On, Nothing as NoReport}
 use Rattle.falling_hours.specs.declared.falls.Fall.{Fall}
 use Rattle.falling_hours.specs.declared.falls.Fall.TheVariants.{Nothing, BeforeStart, Below, Above}
 
@@ -16,16 +16,16 @@ is_apart machine tenths more word =
 
 -- the lowest of n streams from a place on whose number is such a report
 unfoldable pub lowest_from : List ℕ → (ℕ → Bool) → ℕ → ℕ → Found
-lowest_from l report zero at = None
+lowest_from l report zero at = NoReport
 lowest_from l report (suc n) at = pick (report (get_or l at 0)) (On at (get_or l at 0 % 4294967296)) (lowest_from l report n (at + 1))
 
 abbrev pub on_above : Found → Fall
 on_above (On stream other) = Above stream other
-on_above None = Nothing
+on_above NoReport = Nothing
 
 abbrev pub on_below : Found → Found → Fall
 on_below (On stream other) above = Below stream other
-on_below None above = on_above above
+on_below NoReport above = on_above above
 
 -- "The first of these that applies is told": before the start, below, above
 abbrev pub fall_of : ℕ → ℕ → Found → Found → Fall
