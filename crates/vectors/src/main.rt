@@ -1,6 +1,8 @@
 // Reads lines of vectors from its input and writes each with its answer. A line is a letter for what is to be done, a prefix width or
 // a space, a space, and bytes in hexadecimal; a line that begins with '#' is a comment. `stdin` holds the vectors, and `stdout` what
 // must be written, as the papers have it.
+#![tactic(auto)]
+
 mod answers;
 
 use answers::answer;
