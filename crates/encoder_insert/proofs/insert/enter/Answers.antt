@@ -24,7 +24,7 @@ opening_at m place name value small forms vacant held short =
 pub count_of-count-requires : goal.count_of-count-requires
 count_of-count-requires c =
     let p = c.requires in
-    let small : Small c.args.m.now = λ k. omega (arith, c.slice_known-1.given k) in
+    let small : Small c.args.m.now = λ k. grind arith in
     let opening : Opening c.args.m.now c.args.place (length c.args.name.now) (length c.args.value.now) =
     opening_at _ _ _ _ small p.place_value.2 p.place_value.0 p.value_bound.0 p.value_bound.1 in
     omega (arith, opening.long)
@@ -32,7 +32,7 @@ count_of-count-requires c =
 pub insert-requires : goal.insert-requires
 insert-requires c =
     let p = c.requires in
-    let small : Small c.args.m.now = λ k. omega (arith, c.slice_known-1.given k) in
+    let small : Small c.args.m.now = λ k. grind arith in
     let opening : Opening c.args.m.now c.args.place (length c.args.name.now) (length c.args.value.now) =
     opening_at _ _ _ _ small p.place_value.2 p.place_value.0 p.value_bound.0 p.value_bound.1 in
     opening
@@ -40,7 +40,7 @@ insert-requires c =
 pub open_horizons-requires : goal.open_horizons-requires
 open_horizons-requires c =
     let p = c.requires in
-    let small : Small c.args.m.now = λ k. omega (arith, c.slice_known-1.given k) in
+    let small : Small c.args.m.now = λ k. grind arith in
     let opening : Opening c.args.m.now c.args.place (length c.args.name.now) (length c.args.value.now) =
     opening_at _ _ _ _ small p.place_value.2 p.place_value.0 p.value_bound.0 p.value_bound.1 in
     (omega (arith, opening.below), omega (arith, opening.few), omega (arith, long _ small p.place_value.2))

@@ -22,7 +22,7 @@ returns-then-not-forms_encoder c =
 pub returns-then-name-gt-NAME_LIMIT : goal.returns-then-name-gt-NAME_LIMIT
 returns-then-name-gt-NAME_LIMIT c =
     let a = c.args in
-    let small : Small a.m.now = λ k. omega (arith, c.slice_known-1.given k) in
+    let small : Small a.m.now = λ k. grind arith in
     let forms : forms_encoder a.m.now ≡ true = sym c.forms_encoder.ensures ∙ c.if-not-forms_encoder.false in
     let e = insert-name-long a.m.now small forms a.name.now a.value.now a.out.now c.if-name-gt-NAME_LIMIT.true in
     record { result_value = answer-of e c.refused-then-name-gt-NAME_LIMIT.ensures; m_after = memory-of e refl; out_after = output-of e refl }
@@ -30,7 +30,7 @@ returns-then-name-gt-NAME_LIMIT c =
 pub returns-then-value-gt-VALUE_LIMIT : goal.returns-then-value-gt-VALUE_LIMIT
 returns-then-value-gt-VALUE_LIMIT c =
     let a = c.args in
-    let small : Small a.m.now = λ k. omega (arith, c.slice_known-1.given k) in
+    let small : Small a.m.now = λ k. grind arith in
     let forms : forms_encoder a.m.now ≡ true = sym c.forms_encoder.ensures ∙ c.if-not-forms_encoder.false in
     let e = insert-value-long a.m.now small forms a.name.now a.value.now a.out.now c.if-name-gt-NAME_LIMIT.false c.if-value-gt-VALUE_LIMIT.true in
     record { result_value = answer-of e c.refused-then-value-gt-VALUE_LIMIT.ensures; m_after = memory-of e refl; out_after = output-of e refl }
@@ -38,14 +38,14 @@ returns-then-value-gt-VALUE_LIMIT c =
 pub fits-requires : goal.fits-requires
 fits-requires c =
     let a = c.args in
-    let small : Small a.m.now = λ k. omega (arith, c.slice_known-1.given k) in
+    let small : Small a.m.now = λ k. grind arith in
     let forms : forms_encoder a.m.now ≡ true = sym c.forms_encoder.ensures ∙ c.if-not-forms_encoder.false in
     (omega (arith, long _ small forms), omega arith)
 
 pub returns-then-not-fits : goal.returns-then-not-fits
 returns-then-not-fits c =
     let a = c.args in
-    let small : Small a.m.now = λ k. omega (arith, c.slice_known-1.given k) in
+    let small : Small a.m.now = λ k. grind arith in
     let forms : forms_encoder a.m.now ≡ true = sym c.forms_encoder.ensures ∙ c.if-not-forms_encoder.false in
     let over = leb-false (held_of a.m.now + (length a.name.now + length a.value.now + 32)) (limit_of a.m.now) (sym c.fits.ensures ∙ c.if-not-fits.true) in
     let e = insert-over a.m.now small forms a.name.now a.value.now a.out.now c.if-name-gt-NAME_LIMIT.false c.if-value-gt-VALUE_LIMIT.false over in
@@ -66,7 +66,7 @@ insert_fitting-requires c =
 pub returns : goal.returns
 returns c =
     let a = c.args in
-    let small : Small a.m.now = λ k. omega (arith, c.slice_known-1.given k) in
+    let small : Small a.m.now = λ k. grind arith in
     let forms : forms_encoder a.m.now ≡ true = sym c.forms_encoder.ensures ∙ c.if-not-forms_encoder.false in
     let fitting : Fitting a.m.now a.name.now a.value.now =
     record {

@@ -19,34 +19,34 @@ use Rattle.encoder_insert.proofs.insert.insert_fitting.Goals as goal
 
 pub lowest_vacant-place-requires : goal.lowest_vacant-place-requires
 lowest_vacant-place-requires c =
-    let small : Small c.args.m.now = λ k. omega (arith, c.slice_known-1.given k) in
+    let small : Small c.args.m.now = λ k. grind arith in
     (changes _ small c.requires.m_value).ordered
 
 pub overflow_cast-place : goal.overflow_cast-place
 overflow_cast-place c =
     let a = c.args in
-    let small : Small c.args.m.now = λ k. omega (arith, c.slice_known-1.given k) in
+    let small : Small c.args.m.now = λ k. grind arith in
     let place = fitting-place a.m.now small c.requires.m_value a.name.now a.value.now a.out.now c.requires.fitting in
     omega (arith, c.lowest_vacant-place.ensures, place)
 
 pub overflow_add-place : goal.overflow_add-place
 overflow_add-place c =
     let a = c.args in
-    let small : Small c.args.m.now = λ k. omega (arith, c.slice_known-1.given k) in
+    let small : Small c.args.m.now = λ k. grind arith in
     let place = fitting-place a.m.now small c.requires.m_value a.name.now a.value.now a.out.now c.requires.fitting in
     omega (arith, c.lowest_vacant-place.ensures, place)
 
 pub new-index-requires : goal.new-index-requires
 new-index-requires c =
     let a = c.args in
-    let small : Small c.args.m.now = λ k. omega (arith, c.slice_known-1.given k) in
+    let small : Small c.args.m.now = λ k. grind arith in
     let place = fitting-place a.m.now small c.requires.m_value a.name.now a.value.now a.out.now c.requires.fitting in
     (omega arith, omega (arith, c.lowest_vacant-place.ensures, place))
 
 pub returns-then-out-n : goal.returns-then-out-n
 returns-then-out-n c =
     let a = c.args in
-    let small : Small c.args.m.now = λ k. omega (arith, c.slice_known-1.given k) in
+    let small : Small c.args.m.now = λ k. grind arith in
     let index : c.new-index.result.value ≡ 62 + c.lowest_vacant-place.result = ap (λ (i : TableIndex). i.value) c.new-index.ensures in
     let named : indexed c.in-Index.i.value ≡ choose_name (encoder_of a.m.now).entries a.name.now =
     sym (ap (chosen_name a.name.now) c.in-Index.is) ∙ c.choose_name-choice.ensures in
@@ -60,7 +60,7 @@ returns-then-out-n c =
 pub write_insert_index-requires : goal.write_insert_index-requires
 write_insert_index-requires c =
     let a = c.args in
-    let small : Small c.args.m.now = λ k. omega (arith, c.slice_known-1.given k) in
+    let small : Small c.args.m.now = λ k. grind arith in
     let place = fitting-place a.m.now small c.requires.m_value a.name.now a.value.now a.out.now c.requires.fitting in
     let index : c.new-index.result.value ≡ 62 + c.lowest_vacant-place.result = ap (λ (i : TableIndex). i.value) c.new-index.ensures in
     let named : indexed c.in-Index.i.value ≡ choose_name (encoder_of a.m.now).entries a.name.now =
@@ -78,7 +78,7 @@ write_insert_index-requires c =
 pub enter-requires : goal.enter-requires
 enter-requires c =
     let a = c.args in
-    let small : Small c.args.m.now = λ k. omega (arith, c.slice_known-1.given k) in
+    let small : Small c.args.m.now = λ k. grind arith in
     let index : c.new-index.result.value ≡ 62 + c.lowest_vacant-place.result = ap (λ (i : TableIndex). i.value) c.new-index.ensures in
     let held = fitting-held a.m.now small c.requires.m_value a.name.now a.value.now a.out.now c.requires.fitting in
     record { place_value = (c.lowest_vacant-place.ensures, index, c.requires.m_value); value_bound = (held, c.requires.fitting.name_short) }
@@ -86,7 +86,7 @@ enter-requires c =
 pub returns-then-out-n-2 : goal.returns-then-out-n-2
 returns-then-out-n-2 c =
     let a = c.args in
-    let small : Small c.args.m.now = λ k. omega (arith, c.slice_known-1.given k) in
+    let small : Small c.args.m.now = λ k. grind arith in
     let index : c.new-index.result.value ≡ 62 + c.lowest_vacant-place.result = ap (λ (i : TableIndex). i.value) c.new-index.ensures in
     let named : literal a.name.now ≡ choose_name (encoder_of a.m.now).entries a.name.now =
     sym (ap (chosen_name a.name.now) c.in-Bytes.is) ∙ c.choose_name-choice.ensures in
@@ -100,7 +100,7 @@ returns-then-out-n-2 c =
 pub write_insert_text-requires : goal.write_insert_text-requires
 write_insert_text-requires c =
     let a = c.args in
-    let small : Small c.args.m.now = λ k. omega (arith, c.slice_known-1.given k) in
+    let small : Small c.args.m.now = λ k. grind arith in
     let place = fitting-place a.m.now small c.requires.m_value a.name.now a.value.now a.out.now c.requires.fitting in
     let index : c.new-index.result.value ≡ 62 + c.lowest_vacant-place.result = ap (λ (i : TableIndex). i.value) c.new-index.ensures in
     let size : c.insert_text_size-n.result ≡ length (instruction_wire (insert c.new-index.result.value (literal a.name.now) a.value.now)) =
@@ -115,7 +115,7 @@ write_insert_text-requires c =
 pub enter-requires-in-Bytes : goal.enter-requires-in-Bytes
 enter-requires-in-Bytes c =
     let a = c.args in
-    let small : Small c.args.m.now = λ k. omega (arith, c.slice_known-1.given k) in
+    let small : Small c.args.m.now = λ k. grind arith in
     let index : c.new-index.result.value ≡ 62 + c.lowest_vacant-place.result = ap (λ (i : TableIndex). i.value) c.new-index.ensures in
     let held = fitting-held a.m.now small c.requires.m_value a.name.now a.value.now a.out.now c.requires.fitting in
     record { place_value = (c.lowest_vacant-place.ensures, index, c.requires.m_value); value_bound = (held, c.requires.fitting.name_short) }
@@ -123,7 +123,7 @@ enter-requires-in-Bytes c =
 pub returns-else-out-n : goal.returns-else-out-n
 returns-else-out-n c =
     let a = c.args in
-    let small : Small c.args.m.now = λ k. omega (arith, c.slice_known-1.given k) in
+    let small : Small c.args.m.now = λ k. grind arith in
     let index : c.new-index.result.value ≡ 62 + c.lowest_vacant-place.result = ap (λ (i : TableIndex). i.value) c.new-index.ensures in
     let held = fitting-held a.m.now small c.requires.m_value a.name.now a.value.now a.out.now c.requires.fitting in
     let named : indexed c.in-Index.i.value ≡ choose_name (encoder_of a.m.now).entries a.name.now =
@@ -138,7 +138,7 @@ returns-else-out-n c =
 pub returns-else-out-n-2 : goal.returns-else-out-n-2
 returns-else-out-n-2 c =
     let a = c.args in
-    let small : Small c.args.m.now = λ k. omega (arith, c.slice_known-1.given k) in
+    let small : Small c.args.m.now = λ k. grind arith in
     let index : c.new-index.result.value ≡ 62 + c.lowest_vacant-place.result = ap (λ (i : TableIndex). i.value) c.new-index.ensures in
     let held = fitting-held a.m.now small c.requires.m_value a.name.now a.value.now a.out.now c.requires.fitting in
     let named : literal a.name.now ≡ choose_name (encoder_of a.m.now).entries a.name.now =

@@ -14,7 +14,7 @@ returns-then-index-lt-FIRST c = entered-static _ _ _ _ c.if-index-lt-FIRST.true
 
 pub find-f-requires : goal.find-f-requires
 find-f-requires c =
-    let small : Small c.args.m.now = λ k. omega (arith, c.slice_known-1.given k) in
+    let small : Small c.args.m.now = λ k. grind arith in
     let p = c.requires in
     (c.if-index-lt-FIRST.false, entering-ordered _ small p.1 _ p.0 (part_in c.args.part))
 
@@ -23,14 +23,14 @@ returns-in_default c = entered-found _ _ _ _ c.if-index-lt-FIRST.false _ (sym c.
 
 pub refer_nontrailer-requires : goal.refer_nontrailer-requires
 refer_nontrailer-requires c =
-    let small : Small c.args.m.now = λ k. omega (arith, c.slice_known-1.given k) in
+    let small : Small c.args.m.now = λ k. grind arith in
     let p = c.requires in
     let at : found c.args.m.now c.args.index.value c.in-At.place = sym c.find-f.ensures ∙ c.in-At.is in
     (entering-place _ small p.1 _ p.0 (part_in c.args.part) _ _ at, (forms-holds-encoder _ small p.1).long, p.0)
 
 pub refer_trailer-requires : goal.refer_trailer-requires
 refer_trailer-requires c =
-    let small : Small c.args.m.now = λ k. omega (arith, c.slice_known-1.given k) in
+    let small : Small c.args.m.now = λ k. grind arith in
     let p = c.requires in
     let at : found c.args.m.now c.args.index.value c.in-At.place = sym c.find-f.ensures ∙ c.in-At.is in
     (entering-place _ small p.1 _ p.0 (part_in c.args.part) _ _ at, (forms-holds-encoder _ small p.1).long, p.0)
