@@ -1,5 +1,7 @@
 // Fills a table with 128 entries of size 32, empties it in another order and fills it again; then the same with text, up to the limit. After each
 // step the head, the columns and the text in use are printed. `stdout` holds what must be printed; tests/table_fill makes it from docs/STATE.md.
+#![tactic(auto)]
+
 ghost use Rattle.std.specs.Prelude.{ℕ, ◌≤◌, length};
 ghost use Rattle.state.specs.Layout.{front_length};
 
