@@ -3,12 +3,9 @@
 use Prim.Native.Nat.{ℕ, ◌≤◌, ◌<◌}
 use mathlib.Core.Path.{◌≡◌, refl, sym, ap, ◌∙◌}
 use native.Mathlib.Omega.{arith}
-use mathlib.Core.Logic.{⊎_elim}
 use mathlib.Core.Bool.{Bool, true, false, ◌&&◌}
 use mathlib.Core.Option.{Option, none, some}
-use mathlib.Core.List.{List, [], ◌∷◌}
-use denote.Enum.Declared.{tag_of}
-use types.Run.{OneOf}
+use mathlib.Core.List.{List}
 use lib.Dec.{ltb, eqb}
 use lib.ListN.{length}
 use borrow.Author.Tests.{lt-ltb, le-leb, lt-leb, ltb-true, eqb-true}
@@ -36,7 +33,6 @@ use Rattle.decoder.specs.Calls.{block_call}
 use Rattle.decoder_survey.specs.Measure.{Stands, ReadsWell, meaning_of}
 use Rattle.decoder_survey.specs.Passes.{survey_answer, block_survey}
 use Rattle.decoder_survey.specs.declared.measure.Survey.{Survey}
-use Rattle.decoder_survey.specs.contracts.measure.Survey.{the_type}
 use Rattle.decoder_survey.specs.declared.measure.Survey.TheVariants.{Bytes, Waits, Refused}
 use Rattle.decoder_survey.proofs.Entries.{changes}
 use Rattle.decoder_survey.proofs.Surveying.{survey-is}
@@ -136,8 +132,8 @@ module _ (m : List ℕ) (stream part : ℕ) (s out : List ℕ) where
           (sym (ap (λ (o : Option Part). closed_of o m stream) T.is ∙ (changes m S).finish stream T.kind T.low))
 
   -- a block that is refused or waits: the survey's answer, and nothing changes
-  pub unwritten : Stands m → part_turn (decoder_of m).finished stream (part_of part) ≡ true → (v : Survey) → OneOf (1 ∷ 2 ∷ []) (tag_of the_type v)
+  pub unwritten : Stands m → part_turn (decoder_of m).finished stream (part_of part) ≡ true → (v : Survey) → ((n : ℕ) → v ≡ Bytes n → ⊥)
       → v ≡ block_survey m s → block_call m stream part s out ≡ record { answer = survey_answer v; memory = m; output = out }
-  unwritten S t (Bytes n) k e = absurd (⊎_elim (λ (z : ◌≡◌ {A = ℕ} 0 1). omega (arith, z)) (λ (z : ◌≡◌ {A = ℕ} 0 2). omega (arith, z)) k)
+  unwritten S t (Bytes n) k e = absurd (k n refl)
   unwritten S t (Waits index) k e = let g = survey-is m s (Waits index) e in waits S (in-turn _ _ _ t) g.0 index.value g.1
   unwritten S t (Refused number) k e = not-read S.forms t number (survey-is m s (Refused number) e)
