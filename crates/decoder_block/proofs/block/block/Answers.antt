@@ -1,4 +1,4 @@
-use native.Mathlib.Omega.{arith}
+use borrow.Author.Rules.{rules}
 use mathlib.Core.Path.{◌≡◌, refl, sym, ◌∙◌}
 use mathlib.Core.Bool.{true}
 use Rattle.state.specs.DecoderState.{decoder_of}
@@ -15,7 +15,7 @@ returns-then-not-forms_decoder c = let e = sym c.forms_decoder.ensures ∙ c.if-
 pub turn_of-turn-requires : goal.turn_of-turn-requires
 turn_of-turn-requires c =
     let forms : forms_decoder c.args.m.now ≡ true = sym c.forms_decoder.ensures ∙ c.if-not-forms_decoder.false in
-    let stands : Stands c.args.m.now = record { small = λ k. omega (arith, c.slice_known-1.given k); forms = forms; state = refl } in
+    let stands : Stands c.args.m.now = record { small = search rules; forms = forms; state = refl } in
     (changes _ stands).ordered.long
 
 pub returns-in_default : goal.returns-in_default
@@ -28,7 +28,7 @@ pub give-requires : goal.give-requires
 unfolding decoder_of
 give-requires c =
     let forms : forms_decoder c.args.m.now ≡ true = sym c.forms_decoder.ensures ∙ c.if-not-forms_decoder.false in
-    let stands : Stands c.args.m.now = record { small = λ k. omega (arith, c.slice_known-1.given k); forms = forms; state = refl } in (
+    let stands : Stands c.args.m.now = record { small = search rules; forms = forms; state = refl } in (
       stands,
       turned _ _ _ _ _ (sym c.turn_of-turn.ensures ∙ c.in-Of.is),
     )

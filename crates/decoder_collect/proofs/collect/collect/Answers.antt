@@ -1,4 +1,4 @@
-use native.Mathlib.Omega.{arith}
+use borrow.Author.Rules.{rules}
 use mathlib.Core.Path.{◌≡◌, refl, sym, ◌∙◌}
 use mathlib.Core.Bool.{true}
 use Rattle.state.specs.DecoderState.{decoder_of}
@@ -24,5 +24,5 @@ free-requires c =
 pub returns-in-Nothing : goal.returns-in-Nothing
 returns-in-Nothing c =
     let forms : forms_decoder c.args.m.now ≡ true = sym c.forms_decoder.ensures ∙ c.if-not-forms_decoder.false in
-    let stands : let m = c.args.m.now in DecoderStands m (decoder_of m) = record { small = λ k. omega (arith, c.slice_known-1.given k); forms = forms; state = refl } in
+    let stands : let m = c.args.m.now in DecoderStands m (decoder_of m) = record { small = search rules; forms = forms; state = refl } in
     let e = sym c.first_ready.ensures ∙ c.in-Nothing.is in let all = leaves (none_ready _ _ stands e) c.done.ensures refl refl in record { result_value = all.0; m_after = all.1.0; out_after = all.1.1 }

@@ -1,5 +1,6 @@
 use mathlib.Core.Path.{refl, sym, ◌∙◌}
 use native.Mathlib.Omega.{arith}
+use borrow.Author.Rules.{rules}
 use Rattle.model.specs.Parts.{over}
 use Rattle.decoder.proofs.Standing.{Stands, meets, long}
 use Rattle.decoder.proofs.Calling.{close-no-state, close-above, close-done}
@@ -11,7 +12,7 @@ returns-then-not-forms_decoder c = let all = meets (close-no-state over _ _ (sym
 pub returns-then-stream : goal.returns-then-stream
 returns-then-stream c =
     let stands : Stands c.args.m.now = record {
-      small = λ k. omega (arith, c.slice_known-1.given k);
+      small = search rules;
       forms = sym c.forms_decoder.ensures ∙ c.if-not-forms_decoder.false;
     } in
     let all = meets (close-above over _ _ stands (omega arith)) c.refused-then-stream.ensures refl in record { result_value = all.0; m_after = all.1 }
@@ -19,7 +20,7 @@ returns-then-stream c =
 pub clear-requires : goal.clear-requires
 clear-requires c =
     let stands : Stands c.args.m.now = record {
-      small = λ k. omega (arith, c.slice_known-1.given k);
+      small = search rules;
       forms = sym c.forms_decoder.ensures ∙ c.if-not-forms_decoder.false;
     } in
     let h = long _ stands in
@@ -28,7 +29,7 @@ clear-requires c =
 pub returns : goal.returns
 returns c =
     let stands : Stands c.args.m.now = record {
-      small = λ k. omega (arith, c.slice_known-1.given k);
+      small = search rules;
       forms = sym c.forms_decoder.ensures ∙ c.if-not-forms_decoder.false;
     } in
     let close = c in

@@ -1,5 +1,6 @@
 use mathlib.Core.Path.{◌∙◌}
 use native.Mathlib.Omega.{arith}
+use borrow.Author.Rules.{rules}
 use Rattle.horizons.proofs.Raising.{raise-lower, raise-keep}
 use Rattle.horizons.proofs.references.raise.Goals as goal
 
@@ -13,5 +14,5 @@ pub returns-else-horizon_at-next : goal.returns-else-horizon_at-next
 returns-else-horizon_at-next c =
     let w = c in
     let a = w.args in
-    raise-keep a.m.now a.at a.stream.value (λ k. omega (arith, w.slice_known-1.given k)) (omega arith)
+    raise-keep a.m.now a.at a.stream.value (search rules) (omega arith)
     (omega (arith, c.horizon_at.ensures, c.if-horizon_at-next.false))
