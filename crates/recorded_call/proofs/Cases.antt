@@ -4,7 +4,6 @@ use mathlib.Core.Path.{◌≡◌, sym, subst, ap, ◌∙◌}
 use mathlib.Core.List.{List, ◌++◌}
 use lib.ListN.{length, take, drop}
 use Rattle.integers.specs.Answers.{Answer}
-use Rattle.reply.specs.Result.{Result}
 use Rattle.encoder.specs.Calls.{insert_call}
 use Rattle.recording.specs.declared.Call.{Call}
 use Rattle.recording.specs.declared.Kind.{Kind}

@@ -1,4 +1,6 @@
 // A call of a recording, made: through the same functions that a host reaches, on the memory of its end.
+#![tactic(auto)]
+
 ghost use Rattle.std.specs.Prelude.{◌≡◌, ◌++◌, take, drop};
 ghost use Rattle.reply.specs.Reply.{answer_of};
 ghost use Rattle.recorded_call.specs.Performed.{performed};
