@@ -1,4 +1,6 @@
 // The calls as a C host makes them: plain numbers and byte buffers in, one number out. Each is the call of its name; its answer and told numbers are joined in one number. `kolowrotan_c` exports them.
+#![tactic(auto)]
+
 pub mod decoder_calls;
 pub mod encoder_calls;
 pub mod lengths;
