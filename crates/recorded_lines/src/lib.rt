@@ -1,4 +1,6 @@
 // A line of a recording, run; and the lines of a file, read and run one after another.
+#![tactic(auto)]
+
 ghost use Rattle.std.specs.Prelude.{length};
 ghost use Rattle.text_io.specs.Lines.{Inside};
 
@@ -6,13 +8,14 @@ use recorded_call::perform_within;
 use recording::{Call, Fault, Line, read_line};
 use reply::Reply;
 use text_io::lines::{Next, Reader, next_line};
+use text_io::source::Source;
 use tokens::MOST_BYTES;
 
 // How many bytes a line says at most: those of two words.
 pub const LINE_BYTES: usize = 2 * MOST_BYTES;
 
 // What became of a line: there was nothing to do, a call was answered, or it is no call; or there was no line left, or it could not be read.
-#[derive(Drop)]
+#[derive(Clone, Copy)]
 pub enum Ran {
     Comment,
     Answered(Call, Reply),
@@ -50,7 +53,7 @@ fn run_line(
 // Reads the next line of a file into `input` and runs it on the memories of both ends; the bytes that its call was given are left in
 // `bytes`, from the front on, up to the call's `end`.
 pub fn run_next(
-    fd: i32,
+    source: &mut Source,
     input: &mut [u8],
     reader: Reader,
     bytes: &mut [u8],
@@ -61,7 +64,7 @@ pub fn run_next(
     requires { Inside (length input.old) reader }
     ensures { Inside (length input.new) result.rest }
 {
-    let next = next_line(fd, input, reader);
+    let next = next_line(source, input, reader);
     match next {
         Next::End => Turn {
             ran: Ran::End,
