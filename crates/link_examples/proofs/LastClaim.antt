@@ -134,10 +134,10 @@ unfolding indexes
 last-of-all = refl
 
 -- ---- on memory
-calls_are : (D : Decoder) (n : ℕ) → decoder_calls_of D (replicate n (collect (replicate 5 0))) ≡ replicate n (at-decoder.collect 5)
+calls_are : (n : ℕ) (D : Decoder) → decoder_calls_of D (replicate n (collect (replicate 5 0))) ≡ replicate n (at-decoder.collect 5)
 unfolding decoder_calls_of decoder_call_of
-calls_are D zero = refl
-calls_are D (suc n) = ap (λ (l : List at-decoder.DecoderCall). at-decoder.collect 5 ∷ l) (calls_are _ n)
+calls_are zero D = refl
+calls_are (suc n) D = ap (λ (l : List at-decoder.DecoderCall). at-decoder.collect 5 ∷ l) (calls_are n _)
 
 collects-bytes : (n : ℕ) → AllDecoderBytes (replicate n (collect (replicate 5 0)))
 collects-bytes zero = tt
@@ -158,7 +158,7 @@ module _ (m : List ℕ) (small : Small m) (started : (start_call m 4096).answer.
   freed : (n : ℕ) → n ≤ 128 → collected after (collects n) ≡ map acknowledgement (take n (indexes 128 62))
   unfolding collects full
   freed n h =
-      collected-since after full stands (collects n) (collects-bytes n) ∙ ap (collected_since full) (calls_are full n) ∙ in-turn full (indexes 128 62) refl n (omega (arith, count))
+      collected-since after full stands (collects n) (collects-bytes n) ∙ ap (collected_since full) (calls_are n full) ∙ in-turn full (indexes 128 62) refl n (omega (arith, count))
 
   last-ready : ready full 189 ≡ true
   unfolding ready ready_delete delete_of look full indexes
