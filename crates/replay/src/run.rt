@@ -5,6 +5,8 @@ use text_io::incomplete::{Why, incomplete};
 use text_io::lines::Reader;
 use text_io::print;
 use text_io::print::Text;
+use text_io::source::Source;
+use text_io::stream::Stream;
 
 // Where a run stands: the text that is gathered, the number of the last line that was read, and whether the next one could not be read.
 #[derive(Drop)]
@@ -20,7 +22,7 @@ impl Progress {
     }
 }
 
-pub fn run(fd: i32) {
+pub fn run(rt: &HostRuntime, source: &mut Source) {
     let mut input = io::large_buffer();
     let mut bytes = [0u8; LINE_BYTES];
     let mut decoder = io::large_buffer();
@@ -28,7 +30,8 @@ pub fn run(fd: i32) {
     let mut output = io::large_buffer();
     let mut text = io::large_buffer();
     let p = run_lines(
-        fd,
+        Text::new(Stream::Output(rt.stdout())),
+        source,
         &mut input,
         &mut bytes,
         &mut decoder,
@@ -36,19 +39,19 @@ pub fn run(fd: i32) {
         &mut output,
         &mut text,
     );
-    ended(p, &text);
+    ended(rt, p, &text);
 }
 
 // Writes what is still gathered, and says on standard error where the run is not complete.
-fn ended(p: Progress, text: &[u8]) {
+fn ended(rt: &HostRuntime, p: Progress, text: &[u8]) {
     let gathered = p.text;
     let t = print::flush(text, gathered);
     if t.lost {
-        incomplete(libc::STDERR_FILENO, p.line, Why::NotWritten);
+        incomplete(Stream::Error(rt.stderr()), p.line, Why::NotWritten);
         return;
     }
     if p.failed {
-        incomplete(libc::STDERR_FILENO, following(p.line), Why::NotRead);
+        incomplete(Stream::Error(rt.stderr()), following(p.line), Why::NotRead);
     }
 }
 
@@ -59,7 +62,8 @@ fn following(line: u64) -> u64 {
 
 // Runs the lines up to the last, or to one that cannot be read or told.
 fn run_lines(
-    fd: i32,
+    start: Text,
+    source: &mut Source,
     input: &mut [u8],
     bytes: &mut [u8],
     decoder: &mut [u8],
@@ -68,13 +72,13 @@ fn run_lines(
     text: &mut [u8],
 ) -> Progress {
     let mut reader = Reader::new();
-    let mut t = Text::new();
+    let mut t = start;
     let mut line: u64 = 0;
     while line < u64::MAX {
         if t.lost {
             return Progress::at(t, line, false);
         }
-        let turn = run_next(fd, input, reader, bytes, decoder, encoder, output);
+        let turn = run_next(source, input, reader, bytes, decoder, encoder, output);
         let ran = turn.ran;
         if let Ran::End = ran {
             return Progress::at(t, line, false);
