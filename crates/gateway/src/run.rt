@@ -8,13 +8,15 @@ use link_notes::notes::NOTES;
 use recorded_lines::{LINE_BYTES, Ran, run_next};
 use text_io::incomplete::Why;
 use text_io::lines::Reader;
+use text_io::source::Source;
+use text_io::stream::Stream;
 use transcript::calls::{answered, bad};
 use transcript_log::broken_off::{break_off, ended};
 use transcript_log::finish::finish;
 use transcript_log::log::Log;
 
 // Runs a recording from fresh memory, and answers whether the output could be written.
-pub fn run(fd: i32) -> bool {
+pub fn run(rt: &HostRuntime, source: &mut Source) -> bool {
     let mut input = io::large_buffer();
     let mut bytes = [0u8; LINE_BYTES];
     let mut decoder = io::large_buffer();
@@ -24,7 +26,8 @@ pub fn run(fd: i32) -> bool {
     let mut notes = [0u64; NOTES];
     let mut machines = [0u64; RECORDS];
     run_lines(
-        fd,
+        rt,
+        source,
         &mut input,
         &mut bytes,
         &mut decoder,
@@ -37,7 +40,7 @@ pub fn run(fd: i32) -> bool {
 }
 
 // Why no further line is run: there is none, it could not be read, or the transcript could not be written; or that there is no reason.
-#[derive(Drop)]
+#[derive(Clone, Copy)]
 enum Stop {
     Going,
     End,
@@ -55,7 +58,8 @@ struct Stepped {
 
 // Runs the lines, and ends the transcript. A line's number is counted as it is read.
 fn run_lines(
-    fd: i32,
+    rt: &HostRuntime,
+    source: &mut Source,
     input: &mut [u8],
     bytes: &mut [u8],
     decoder: &mut [u8],
@@ -66,11 +70,11 @@ fn run_lines(
     machines: &mut [u64; RECORDS],
 ) -> bool {
     let mut reader = Reader::new();
-    let mut log = Log::new();
+    let mut log = Log::new(Stream::Output(rt.stdout()));
     let mut number: u64 = 0;
     while number < u64::MAX {
         let s = step(
-            fd,
+            source,
             input,
             reader,
             number + 1,
@@ -87,7 +91,7 @@ fn run_lines(
         reader = s.rest;
         log = s.log;
         if stops(stop) {
-            return stopped(stop, number, text, log, notes, machines);
+            return stopped(rt, stop, number, text, log, notes, machines);
         }
         number += 1;
     }
@@ -96,7 +100,7 @@ fn run_lines(
 
 // Runs the next line, and tells what became of it.
 fn step(
-    fd: i32,
+    source: &mut Source,
     input: &mut [u8],
     reader: Reader,
     line: u64,
@@ -112,7 +116,7 @@ fn step(
     requires { Inside (length input.old) reader }
     ensures { Inside (length input.new) result.rest }
 {
-    let turn = run_next(fd, input, reader, bytes, decoder, encoder, output);
+    let turn = run_next(source, input, reader, bytes, decoder, encoder, output);
     let ran = turn.ran;
     let rest = turn.rest;
     let next = told(ran, line, bytes, output, text, log, notes, machines);
@@ -160,6 +164,7 @@ fn stops(stop: Stop) -> bool {
 
 // Ends the transcript after so many lines, and answers whether it could be written.
 fn stopped(
+    rt: &HostRuntime,
     stop: Stop,
     number: u64,
     text: &mut [u8],
@@ -169,8 +174,8 @@ fn stopped(
 ) -> bool {
     match stop {
         Stop::Going => true,
-        Stop::End => ended(finish(text, log, number, notes, machines), number),
-        Stop::NotRead => break_off(more(number), Why::NotRead, true),
-        Stop::NotWritten => break_off(more(number), Why::NotWritten, false),
+        Stop::End => ended(rt, finish(text, log, number, notes, machines), number),
+        Stop::NotRead => break_off(rt, more(number), Why::NotRead, true),
+        Stop::NotWritten => break_off(rt, more(number), Why::NotWritten, false),
     }
 }
