@@ -31,7 +31,7 @@ pub record TableTurn : Type 0 where
   pub ends : Ends
   pub event : TableEvent
 
--- the memory of an end after a start: a refused one leaves it was
+-- the memory of an end after a start: a refused one leaves it as it was
 abbrev pub memory_after : List ℕ → Result → List ℕ
 memory_after m r = pick (eqb r.answer.number 0) r.memory m
 

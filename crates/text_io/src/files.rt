@@ -12,15 +12,38 @@ pub fn is_argument(rt: &HostRuntime, i: usize) -> bool {
     }
 }
 
-// Opens the file that argument `i` names, `-` being the standard input; nothing where that cannot be done.
+// Is argument `i` the one that stands for the standard input?
+fn is_input(rt: &HostRuntime, i: usize) -> bool {
+    let mut word = [0u8; 2];
+    match rt.arg(i, &mut word) {
+        Ok(n) => n == 1 && word[0] == b'-',
+        Err(_) => false,
+    }
+}
+
+// Does an argument before `i` stand for it?
+fn was_input(rt: &HostRuntime, i: usize) -> bool {
+    for earlier in 1..i {
+        if is_input(rt, earlier) {
+            return true;
+        }
+    }
+    false
+}
+
+// Opens the file that argument `i` names, `-` being the standard input, which is closed where an earlier argument was it; nothing where that cannot be done.
 pub fn open_argument(rt: &HostRuntime, i: usize) -> Option<Source> {
+    if is_input(rt, i) {
+        return if was_input(rt, i) {
+            Some(Source::Closed)
+        } else {
+            Some(Source::Input(rt.stdin()))
+        };
+    }
     let mut path = io::buffer();
     let Ok(n) = rt.arg(i, &mut path) else {
         return None;
     };
-    if n == 1 && path[0] == b'-' {
-        return Some(Source::Input(rt.stdin()));
-    }
     open_read(rt, &path[..n])
 }
 
