@@ -8,7 +8,7 @@ use lib.ListN.{length}
 use lib.Dec.{ltb, leb}
 use borrow.Author.Tests.{leb-true, leb-false}
 use Rattle.memory.proofs.Order.{need-both, not-both}
-use Rattle.integers.specs.Answers.{Answer, done, refusal, out_of_turn, no_room, too_long}
+use Rattle.integers.specs.Answers.{Answer, done, refusal, out_of_turn, no_room, too_long, number_of}
 use Rattle.fields.specs.Form.{Field}
 use Rattle.fields.specs.Reading.{FieldListRead, list, read_field_list}
 use Rattle.fields.specs.Reading as reading
@@ -23,6 +23,7 @@ use Rattle.encoder.specs.Calls.{on_list, block_call}
 use Rattle.encoder_fields.proofs.Bound.{block_length}
 use Rattle.link.specs.Calls.{encoder_result}
 use Rattle.block_room.specs.Claim.{block_answer}
+use Rattle.integers.specs.declared.answer.Refusal.{Refusal}
 
 module _ (m : List ℕ) (forms : forms_encoder m ≡ true) (stream part : ℕ) (s out : List ℕ) (P : Answer → Type 0) where
   abbrev E : Encoder
@@ -33,7 +34,7 @@ module _ (m : List ℕ) (forms : forms_encoder m ≡ true) (stream part : ℕ) (
 
   -- out of turn; a list that is refused; a block too long; too little room; a block written
   module _ (turned : part_turn E.written stream (part_of part) ≡ false → P (refusal out_of_turn))
-      (unread : (number : ℕ) → read_field_list s ≡ reading.FieldListRead.refused number → P (refusal number))
+      (unread : (why : Refusal) → read_field_list s ≡ reading.FieldListRead.refused why → P (refusal (number_of why)))
       (long : (fs : List Field) → read_field_list s ≡ list fs → 16384 < block_length E.entries fs → P (refusal too_long))
       (lacks : (fs : List Field) → read_field_list s ≡ list fs → block_length E.entries fs ≤ 16384
       → length out < block_length E.entries fs → P (refusal no_room))
@@ -65,4 +66,4 @@ module _ (m : List ℕ) (forms : forms_encoder m ≡ true) (stream part : ℕ) (
         go : (r : FieldListRead) → read_field_list s ≡ r
             → P (on_list (refused m out) r (λ fs. stepped overlay_encoder m out (encode_block E stream part fs (length out)))).answer
         go (list fs) e = encode-ways fs e
-        go (reading.FieldListRead.refused number) e = unread number e
+        go (reading.FieldListRead.refused why) e = unread why e

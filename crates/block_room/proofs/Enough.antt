@@ -26,10 +26,11 @@ use Rattle.link.proofs.Runs.{after-encoder}
 use Rattle.block_room.specs.Room.{bound, block_room, block_room_of}
 use Rattle.block_room.specs.Claim.{block_answer, Enough}
 use Rattle.block_room.proofs.Answers.{answer-ways}
+use Rattle.integers.specs.declared.answer.Refusal.{Refusal}
 
 -- a list is read in one way
-pub one-reading : {X : Type 0} (s : List ℕ) (fs : List Field) → read_field_list s ≡ list fs → (number : ℕ) → read_field_list s ≡ reading.FieldListRead.refused number → X
-one-reading s fs e number d = nope (cc)
+pub one-reading : {X : Type 0} (s : List ℕ) (fs : List Field) → read_field_list s ≡ list fs → (why : Refusal) → read_field_list s ≡ reading.FieldListRead.refused why → X
+one-reading s fs e why d = nope (cc)
 
 pub same-fields : (s : List ℕ) (fs gs : List Field) → read_field_list s ≡ list fs → read_field_list s ≡ list gs → gs ≡ fs
 same-fields s fs gs e d = cc
@@ -50,7 +51,7 @@ module _ (m : List ℕ) (small : Small m) (forms : forms_encoder m ≡ true) whe
       at_most =
           answer-ways m forms stream part s out (λ (a : Answer). a.number ≡ 0 → a.first ≤ bound (length s) (length fs))
           (λ t z. absurd (omega arith))
-          (λ number d z. one-reading s fs e number d)
+          (λ why d z. one-reading s fs e why d)
           (λ gs d h z. absurd (omega arith))
           (λ gs d h k z. absurd (omega arith))
           (λ gs d h k z. within gs d)
@@ -60,7 +61,7 @@ module _ (m : List ℕ) (small : Small m) (forms : forms_encoder m ≡ true) whe
       lent room =
           answer-ways m forms stream part s out (λ (a : Answer). a.number ≡ 12 → ⊥)
           (λ t z. omega arith)
-          (λ number d z. one-reading s fs e number d)
+          (λ why d z. one-reading s fs e why d)
           (λ gs d h z. omega arith)
           (λ gs d h k z. omega (arith, within gs d))
           (λ gs d h k z. omega arith)
@@ -70,7 +71,7 @@ module _ (m : List ℕ) (small : Small m) (forms : forms_encoder m ≡ true) whe
     uncounted room =
         answer-ways m forms stream part s out (λ (a : Answer). a.number ≡ 12 → ⊥)
         (λ t z. omega arith)
-        (λ number d z. ⊎_elim (λ n. omega arith) (λ n. omega arith) (list-number s (length s) 0 [] number d))
+        (λ why d z. ⊎_elim (λ n. omega arith) (λ n. omega arith) (list-number s (length s) 0 [] why d))
         (λ gs d h z. omega arith)
         (λ gs d h k z. omega (arith, read-within l low s bytes gs d, three s gs d))
         (λ gs d h k z. omega arith)

@@ -76,7 +76,7 @@ module _ (m : List ℕ) (limit : ℕ) (small : Small m) (started : (start_call m
   not-out out =
       answer-ways fresh (start-encoder m limit small started).forms 0 0 s out (λ (a : Answer). a.number ≡ 11 → ⊥)
       (λ t z. not-both (part_turn (encoder_of fresh).written 0 (part_of 0)) in-turn t)
-      (λ number d z. one-reading s (plain_field ∷ []) (list_back (plain_field ∷ []) (fine, tt)) number d)
+      (λ why d z. one-reading s (plain_field ∷ []) (list_back (plain_field ∷ []) (fine, tt)) why d)
       (λ gs d h z. omega arith)
       (λ gs d h k z. omega arith)
       (λ gs d h k z. omega arith)

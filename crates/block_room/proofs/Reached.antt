@@ -55,7 +55,7 @@ module _ (m : List ℕ) (limit : ℕ) (small : Small m) (started : (start_call m
     ways P out_of_turn told short =
         answer-ways now (stands m limit small started cs b).forms stream part s out P
         (λ t. out_of_turn _ refl)
-        (λ number d. one-reading s (f ∷ []) reads number d)
+        (λ why d. one-reading s (f ∷ []) reads why d)
         (λ gs d h. absurd (omega (arith, block-length gs d)))
         (λ gs d h k. short (omega (arith, block-length gs d)) _ refl)
         (λ gs d h k. rw (block-length gs d) (told (omega (arith, block-length gs d))))

@@ -19,11 +19,11 @@ use Rattle.blocks.specs.Representation.{Representation, indexed, literal, FineRe
 use Rattle.blocks.specs.Reading.{flag_of, representation_of, read_representation, block, block_from, read_block}
 use Rattle.blocks.specs.declared.read.RepresentationPlace.{RepresentationPlace}
 use Rattle.blocks.specs.declared.read.RepresentationPlace.TheVariants.{Indexed, Literal}
-use Rattle.blocks.specs.declared.read.RepresentationRead.TheVariants.{Found}
 use Rattle.blocks.proofs.Equations.{flag-low, flag-high, indexed-found, literal-found, representation-literal, representation-indexed}
 use Rattle.blocks.proofs.Turns.{block-done, block_more, block-whole}
 use Rattle.blocks.proofs.Writing.{indexed-wire, literal-wire, literal-length, block-wire-nil, block-wire-cons}
 use Rattle.blocks.proofs.Bounds.{representation-good}
+use Rattle.std.specs.Prelude.{Ok}
 
 flag-back : (flag b : ℕ) → flag < 2 → flag * 64 ≤ b → b < flag * 64 + 64 → flag_of b ≡ flag
 flag-back flag b h k l =
@@ -33,14 +33,14 @@ flag-back flag b h k l =
 
 -- where the bytes of a representation stand, a place with that representation is read
 pub representation-back : (s : List ℕ) (at : ℕ) (r : Representation) → FineRepresentation r → Has s at (representation_wire r)
-    → (p : RepresentationPlace) × (read_representation s at ≡ Found p (at + length (representation_wire r))) × (representation_of s p ≡ r)
+    → (p : RepresentationPlace) × (read_representation s at ≡ Ok (p, at + length (representation_wire r))) × (representation_of s p ≡ r)
 representation-back s at (indexed i) h p =
     let q : Has s at (int_wire 7 128 i) = rw (indexed-wire i) at p in
     let f = first_byte s 7 at 128 i q in (
       Indexed (record { value = i }),
       representation-indexed s at f.0 f.1
           ∙ indexed-found s at _ refl (record { value = i }) _ (int-back s 7 at 1 i h.1 q) (λ z. omega (arith, h.0))
-          ∙ ap (λ (bytes : List ℕ). Found (Indexed (record { value = i })) (at + length bytes)) (sym (indexed-wire i)),
+          ∙ ap (λ (bytes : List ℕ). Ok (Indexed (record { value = i }), at + length bytes)) (sym (indexed-wire i)),
       refl,
     )
 representation-back s at (literal flag name value) h p =
@@ -55,7 +55,7 @@ representation-back s at (literal flag name value) h p =
       place,
       representation-literal s at f.0 (omega (arith, h.0, f.2))
           ∙ literal-found s at _ refl n.0 _ n.1 _ refl v.0 _ v.1
-          ∙ ap (Found place) (omega (arith, literal-length flag name value)),
+          ∙ ap (λ (next : ℕ). Ok (place, next)) (omega (arith, literal-length flag name value)),
       ap (λ (g : ℕ). literal g (name_of s n.0) (string_bytes s v.0)) (flag-back flag (get_or s at 0) h.0 f.1 f.2)
           ∙ ap₂ (literal flag) n.2 v.2,
     )

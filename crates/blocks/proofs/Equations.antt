@@ -11,16 +11,13 @@ use Rattle.wire.specs.Text.{read_string}
 use Rattle.wire.specs.Name.{read_name}
 use Rattle.blocks.specs.Reading.{flag_of, read_indexed, read_literal, read_representation}
 use Rattle.integers.specs.declared.integer.WireInt.{WireInt}
-use Rattle.integers.specs.declared.integer.IntRead.{IntRead}
-use Rattle.integers.specs.declared.integer.IntRead.TheVariants.{Value, Refused as IntRefused}
 use Rattle.wire.specs.declared.text.StringPlace.{StringPlace}
-use Rattle.wire.specs.declared.text.StringRead.{StringRead}
-use Rattle.wire.specs.declared.text.StringRead.TheVariants.{Found as StringFound, Refused as StringRefused}
 use Rattle.wire.specs.declared.name.NamePlace.{NamePlace}
-use Rattle.wire.specs.declared.name.NameRead.{NameRead}
-use Rattle.wire.specs.declared.name.NameRead.TheVariants.{Found as NameFound, Refused as NameRefused}
 use Rattle.blocks.specs.declared.read.RepresentationPlace.TheVariants.{Indexed, Literal}
-use Rattle.blocks.specs.declared.read.RepresentationRead.TheVariants.{Found, Refused}
+use Rattle.std.specs.Prelude.{Ok, Err}
+use Rattle.integers.specs.Answers.{Read}
+use Rattle.integers.specs.declared.answer.Refusal.TheVariants.{NotAllowed, Truncated}
+use Rattle.integers.specs.declared.answer.Refusal.{Refusal}
 
 -- the N bit, below and from 64 on
 pub flag-low : (b : ℕ) → b < 64 → flag_of b ≡ 0
@@ -29,37 +26,37 @@ flag-low b h = simp (lt-ltb b 64 h)
 pub flag-high : (b : ℕ) → 64 ≤ b → flag_of b ≡ 1
 flag-high b h = simp (le-ltb b 64 h)
 
-module _ (s : List ℕ) (at : ℕ) (r : IntRead) (e : r ≡ read_int 7 s at) where
-  pub indexed-refused : (number : ℕ) → r ≡ IntRefused number → read_indexed s at ≡ Refused number
+module _ (s : List ℕ) (at : ℕ) (r : Read WireInt) (e : r ≡ read_int 7 s at) where
+  pub indexed-refused : (why : Refusal) → r ≡ Err why → read_indexed s at ≡ Err why
   unfolding read_indexed
-  indexed-refused number d = simp (← e, d)
+  indexed-refused why d = simp (← e, d)
 
-  module _ (n : WireInt) (next : ℕ) (d : r ≡ Value n next) where
-    pub indexed-zero : n.value ≡ 0 → read_indexed s at ≡ Refused 5
+  module _ (n : WireInt) (next : ℕ) (d : r ≡ Ok (n, next)) where
+    pub indexed-zero : n.value ≡ 0 → read_indexed s at ≡ Err NotAllowed
     unfolding read_indexed
     indexed-zero z = simp (← e, d, le-ltb 0 n.value (omega arith))
 
-    pub indexed-found : (n.value ≡ 0 → ⊥) → read_indexed s at ≡ Found (Indexed (record { value = n.value })) next
+    pub indexed-found : (n.value ≡ 0 → ⊥) → read_indexed s at ≡ Ok (Indexed (record { value = n.value }), next)
     unfolding read_indexed
     indexed-found h = simp (← e, d, lt-ltb 0 n.value (omega arith))
 
-module _ (s : List ℕ) (at : ℕ) (r : NameRead) (e : r ≡ read_name 6 s at) where
-  pub literal-name-refused : (number : ℕ) → r ≡ NameRefused number → read_literal s at ≡ Refused number
+module _ (s : List ℕ) (at : ℕ) (r : Read NamePlace) (e : r ≡ read_name 6 s at) where
+  pub literal-name-refused : (why : Refusal) → r ≡ Err why → read_literal s at ≡ Err why
   unfolding read_literal
-  literal-name-refused number d = simp (← e, d)
+  literal-name-refused why d = simp (← e, d)
 
-  module _ (name : NamePlace) (next : ℕ) (d : r ≡ NameFound name next) (t : StringRead) (f : t ≡ read_string s next 2047) where
-    pub literal-value-refused : (number : ℕ) → t ≡ StringRefused number → read_literal s at ≡ Refused number
+  module _ (name : NamePlace) (next : ℕ) (d : r ≡ Ok (name, next)) (t : Read StringPlace) (f : t ≡ read_string s next 2047) where
+    pub literal-value-refused : (why : Refusal) → t ≡ Err why → read_literal s at ≡ Err why
     unfolding read_literal
-    literal-value-refused number g = simp (← e, d, ← f, g)
+    literal-value-refused why g = simp (← e, d, ← f, g)
 
-    pub literal-found : (value : StringPlace) (after : ℕ) → t ≡ StringFound value after
-        → read_literal s at ≡ Found (Literal (flag_of (get_or s at 0)) name value) after
+    pub literal-found : (value : StringPlace) (after : ℕ) → t ≡ Ok (value, after)
+        → read_literal s at ≡ Ok (Literal (flag_of (get_or s at 0)) name value, after)
     unfolding read_literal
     literal-found value after g = simp (← e, d, ← f, g)
 
 module _ (s : List ℕ) (at : ℕ) where
-  pub representation-truncated : length s ≤ at → read_representation s at ≡ Refused 2
+  pub representation-truncated : length s ≤ at → read_representation s at ≡ Err Truncated
   unfolding read_representation
   representation-truncated h = simp (le-ltb _ _ h)
 

@@ -10,15 +10,16 @@ use Rattle.memory.proofs.Order.{split}
 use Rattle.blocks.specs.Representation.{Representation}
 use Rattle.blocks.specs.Reading.{representation_of, read_representation, BlockRead, block, refused, block_from, read_block}
 use Rattle.blocks.specs.declared.read.RepresentationPlace.{RepresentationPlace}
-use Rattle.blocks.specs.declared.read.RepresentationRead.{RepresentationRead}
-use Rattle.blocks.specs.declared.read.RepresentationRead.TheVariants.{Found, Refused}
 use Rattle.blocks.proofs.Turns.{block_none, block-done, block_refused, block_more, block-whole}
 use Rattle.blocks.proofs.Bounds.{representation-good}
+use Rattle.std.specs.Prelude.{Ok, Err}
+use Rattle.integers.specs.Answers.{Read}
+use Rattle.integers.specs.declared.answer.Refusal.{Refusal}
 
 -- representations put before a block that was read
 abbrev pub prefixed : List Representation → BlockRead → BlockRead
 prefixed xs (block rs) = block (xs ++ rs)
-prefixed xs (refused number) = refused number
+prefixed xs (refused why) = refused why
 
 -- the block from a place on, with no count
 abbrev pub block_at : List ℕ → ℕ → BlockRead
@@ -27,11 +28,11 @@ block_at s at = block_from (length s - at) s at []
 module _ (s : List ℕ) where
   step : (f g at : ℕ) (before : List Representation) → length s ≤ at + suc f → length s ≤ at + g → at < length s
       → ((g at : ℕ) (before : List Representation) → length s ≤ at + f → length s ≤ at + g → block_from f s at before ≡ block_from g s at before)
-      → (r : RepresentationRead) → r ≡ read_representation s at → block_from (suc f) s at before ≡ block_from g s at before
-  step f g at before h k l ih (Refused number) e =
-      block_refused s at before l _ e (suc f) (omega arith) number refl
-      ∙ sym (block_refused s at before l _ e g (omega arith) number refl)
-  step f g at before h k l ih (Found p next) e =
+      → (r : Read RepresentationPlace) → r ≡ read_representation s at → block_from (suc f) s at before ≡ block_from g s at before
+  step f g at before h k l ih (Err why) e =
+      block_refused s at before l _ e (suc f) (omega arith) why refl
+      ∙ sym (block_refused s at before l _ e g (omega arith) why refl)
+  step f g at before h k l ih (Ok (p, next)) e =
       let b = representation-good s at p next (sym e) in
       rw sub-one at (block_more s at before l _ e (suc f) (omega arith) p next refl)
       ∙ ih (g - 1) next (before ++ (representation_of s p ∷ [])) (omega arith) (omega arith)
@@ -47,11 +48,11 @@ module _ (s : List ℕ) where
 
   step-prefixed : (f at : ℕ) (xs ys : List Representation) → at < length s
       → ((at : ℕ) (ys : List Representation) → block_from f s at (xs ++ ys) ≡ prefixed xs (block_from f s at ys))
-      → (r : RepresentationRead) → r ≡ read_representation s at → block_from (suc f) s at (xs ++ ys) ≡ prefixed xs (block_from (suc f) s at ys)
-  step-prefixed f at xs ys l ih (Refused number) e =
-      block_refused s at (xs ++ ys) l _ e (suc f) (omega arith) number refl
-      ∙ sym (ap (prefixed xs) (block_refused s at ys l _ e (suc f) (omega arith) number refl))
-  step-prefixed f at xs ys l ih (Found p next) e =
+      → (r : Read RepresentationPlace) → r ≡ read_representation s at → block_from (suc f) s at (xs ++ ys) ≡ prefixed xs (block_from (suc f) s at ys)
+  step-prefixed f at xs ys l ih (Err why) e =
+      block_refused s at (xs ++ ys) l _ e (suc f) (omega arith) why refl
+      ∙ sym (ap (prefixed xs) (block_refused s at ys l _ e (suc f) (omega arith) why refl))
+  step-prefixed f at xs ys l ih (Ok (p, next)) e =
       let one = representation_of s p ∷ [] in
       rw sub-one at (block_more s at (xs ++ ys) l _ e (suc f) (omega arith) p next refl)
       ∙ ap (block_from f s next) (append_assoc xs ys one)
@@ -74,10 +75,10 @@ module _ (s : List ℕ) where
   at-end at h = block-done s at [] (length s - at) h
 
   module _ (at : ℕ) (h : at < length s) where
-    pub at-refused : (number : ℕ) → read_representation s at ≡ Refused number → block_at s at ≡ refused number
-    at-refused number d = block_refused s at [] h _ refl (length s - at) (omega arith) number d
+    pub at-refused : (why : Refusal) → read_representation s at ≡ Err why → block_at s at ≡ refused why
+    at-refused why d = block_refused s at [] h _ refl (length s - at) (omega arith) why d
 
-    pub at_more : (p : RepresentationPlace) (next : ℕ) → read_representation s at ≡ Found p next
+    pub at_more : (p : RepresentationPlace) (next : ℕ) → read_representation s at ≡ Ok (p, next)
         → block_at s at ≡ prefixed (representation_of s p ∷ []) (block_at s next)
     at_more p next d =
         let g = representation-good s at p next d in

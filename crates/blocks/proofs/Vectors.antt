@@ -18,17 +18,18 @@ use Rattle.blocks.specs.Reading.{read_indexed, read_literal, read_representation
 use Rattle.blocks.specs.Meaning.{Slot, vacant, holds, is_static, with_statics, field_meaning, BlockMeaning, list, block_meaning}
 use Rattle.wire.specs.declared.name.NamePlace.TheVariants.{Index}
 use Rattle.blocks.specs.declared.read.RepresentationPlace.TheVariants.{Literal}
-use Rattle.blocks.specs.declared.read.RepresentationRead.TheVariants.{Found}
+use Rattle.integers.specs.declared.answer.Refusal.TheVariants.{NotAllowed}
+use Rattle.std.specs.Prelude.{Ok}
 
 abbrev sample : List ℕ
 sample = 0x04 ∷ 0x0c ∷ 0x2f ∷ 0x73 ∷ 0x61 ∷ 0x6d ∷ 0x70 ∷ 0x6c ∷ 0x65 ∷ 0x2f ∷ 0x70 ∷ 0x61 ∷ 0x74 ∷ 0x68 ∷ []
 
-pub reading : (read_representation sample 0 ≡ Found (Literal 0 (Index (record { value = 4 })) (plain_place 2 12)) 14)
+pub reading : (read_representation sample 0 ≡ Ok (Literal 0 (Index (record { value = 4 })) (plain_place 2 12), 14))
     × (read_block sample ≡ block (literal 0 (Name.indexed 4) (bytes "/sample/path") ∷ []))
     × (read_block (0x82 ∷ []) ≡ block (indexed 2 ∷ []))
     × (read_block (0xbe ∷ 0x82 ∷ []) ≡ block (indexed 62 ∷ indexed 2 ∷ []))
     × (read_block (0x7e ∷ 0x01 ∷ 0x37 ∷ []) ≡ block (literal 1 (Name.indexed 62) (0x37 ∷ []) ∷ []))
-    × (read_block (0x80 ∷ []) ≡ refused 5)
+    × (read_block (0x80 ∷ []) ≡ refused NotAllowed)
     × (read_block [] ≡ block [])
 unfolding read_int groups read_string string_after string_end text_at string_bytes read_name read_indexed read_literal read_representation block_from read_block
 reading = (refl, refl, refl, refl, refl, refl, refl)

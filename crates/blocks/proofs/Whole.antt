@@ -9,12 +9,13 @@ use lib.ListN.{length, length-append}
 use lib.Dec.{ltb}
 use Rattle.memory.proofs.Order.{split, pick-both}
 use Rattle.blocks.specs.Representation.{Representation, AllFine}
-use Rattle.blocks.specs.Reading.{on_representation, representation_of, read_representation, BlockRead, block, refused, block_from, read_block}
+use Rattle.blocks.specs.Reading.{representation_of, read_representation, BlockRead, block, refused, block_from, read_block}
 use Rattle.blocks.specs.declared.read.RepresentationPlace.{RepresentationPlace}
-use Rattle.blocks.specs.declared.read.RepresentationRead.{RepresentationRead}
-use Rattle.blocks.specs.declared.read.RepresentationRead.TheVariants.{Found, Refused}
 use Rattle.blocks.proofs.Turns.{block_none, block-done, block_refused, block_more, block-long, block-whole}
 use Rattle.blocks.proofs.Bounds.{representation-good}
+use Rattle.std.specs.Prelude.{Ok, Err}
+use Rattle.integers.specs.Answers.{Read, on_read}
+use Rattle.integers.specs.declared.answer.Refusal.TheVariants.{TooLong}
 
 pub all-fine-append : (rs qs : List Representation) → AllFine rs → AllFine qs → AllFine (rs ++ qs)
 all-fine-append [] qs h k = k
@@ -22,17 +23,17 @@ all-fine-append (r ∷ rs) qs h k = (h.0, all-fine-append rs qs h.1 k)
 
 abbrev FineRead : BlockRead → Type 0
 FineRead (block rs) = AllFine rs
-FineRead (refused number) = Unit {0}
+FineRead (refused why) = Unit {0}
 
 -- at most n representations
 abbrev FewRead : ℕ → BlockRead → Type 0
 FewRead n (block rs) = length rs ≤ n
-FewRead n (refused number) = Unit {0}
+FewRead n (refused why) = Unit {0}
 
-few-on-representation : (n : ℕ) (r : RepresentationRead) (f : RepresentationPlace → ℕ → BlockRead)
-    → ((p : RepresentationPlace) (next : ℕ) → FewRead n (f p next)) → FewRead n (on_representation refused r f)
-few-on-representation n (Found p next) f g = g p next
-few-on-representation n (Refused number) f g = tt
+few-on-representation : (n : ℕ) (r : Read RepresentationPlace) (f : RepresentationPlace → ℕ → BlockRead)
+    → ((p : RepresentationPlace) (next : ℕ) → FewRead n (f p next)) → FewRead n (on_read refused r f)
+few-on-representation n (Ok (p, next)) f g = g p next
+few-on-representation n (Err why) f g = tt
 
 module _ (s : List ℕ) where
   -- one for each turn
@@ -56,9 +57,9 @@ module _ (s : List ℕ) where
 
   fine-step : (f at : ℕ) (before : List Representation) → at < length s → AllFine before
       → ((at : ℕ) (before : List Representation) → AllFine before → FineRead (block_from f s at before))
-      → (r : RepresentationRead) → r ≡ read_representation s at → FineRead (block_from (suc f) s at before)
-  fine-step f at before l a ih (Refused number) e = rw (block_refused s at before l _ e (suc f) (omega arith) number refl) tt
-  fine-step f at before l a ih (Found p next) e =
+      → (r : Read RepresentationPlace) → r ≡ read_representation s at → FineRead (block_from (suc f) s at before)
+  fine-step f at before l a ih (Err why) e = rw (block_refused s at before l _ e (suc f) (omega arith) why refl) tt
+  fine-step f at before l a ih (Ok (p, next)) e =
       let g = representation-good s at p next (sym e) in
       let one = representation_of s p ∷ [] in
       rw (block_more s at before l _ e (suc f) (omega arith) p next refl, sub-one)
@@ -83,5 +84,5 @@ module _ (s : List ℕ) where
   pub block-short : (rs : List Representation) → read_block s ≡ block rs → length s ≤ 16384
   block-short rs e =
       split 16384 (length s)
-      (λ l. let d : refused 13 ≡ read_block s = sym (block-long s l) in let z : ◌≡◌ {A = ℕ} 0 1 = cc in absurd (omega arith))
+      (λ l. let d : refused TooLong ≡ read_block s = sym (block-long s l) in let z : ◌≡◌ {A = ℕ} 0 1 = cc in absurd (omega arith))
       (λ l. l)

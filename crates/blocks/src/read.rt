@@ -1,12 +1,13 @@
 // Representations read at a place of a block, and the reading of a whole block.
 ghost use Rattle.std.specs.Prelude.{◌≡◌, ℕ, ◌<◌, length};
-ghost use Rattle.blocks.specs.Reading.{representation_answer, flag_of, read_indexed, read_literal, read_representation, read_block, block_answer};
+ghost use Rattle.integers.specs.Answers.{checked_number};
+ghost use Rattle.blocks.specs.Reading.{block_answer, flag_of, read_indexed, read_literal, read_representation, read_block, block_checked};
 
-use integers::answer::{DONE, NOT_ALLOWED, TOO_LONG, TRUNCATED};
-use integers::integer::{IntRead, WireInt};
+use integers::answer::{Read, Refusal};
+use integers::integer::WireInt;
 use integers::number::TableIndex;
-use wire::name::{NamePlace, NameRead, read_name};
-use wire::text::{StringPlace, StringRead, VALUE_LIMIT, read_string};
+use wire::name::{NamePlace, read_name};
+use wire::text::{StringPlace, VALUE_LIMIT, read_string};
 
 // The most bytes that a block has.
 pub const BLOCK_LIMIT: usize = 16_384;
@@ -24,67 +25,46 @@ pub enum RepresentationPlace {
     Literal(u8, NamePlace, StringPlace),
 }
 
-// What reading a representation finds: the representation and the place after it, or the answer's number.
-#[derive(Drop)]
-pub enum RepresentationRead {
-    Found(RepresentationPlace, usize),
-    Refused(u8),
-}
-
-impl RepresentationRead {
-    pub fn number(self) -> u8
-        ensures { result ≡ (representation_answer self).number }
-    {
-        match self {
-            RepresentationRead::Found(_, _) => DONE,
-            RepresentationRead::Refused(number) => number,
-        }
-    }
-}
-
-fn read_indexed(s: &[u8], at: usize) -> RepresentationRead
+fn read_indexed(s: &[u8], at: usize) -> Read<RepresentationPlace>
     ensures { result ≡ read_indexed s.now at }
 {
     let r = WireInt::read(s, at, WireInt::PREFIX7);
-    let IntRead::Value(n, next) = r else {
-        return RepresentationRead::Refused(r.number());
+    let Ok((n, next)) = r else {
+        return Err(r.unwrap_err());
     };
     let value = n.value;
     if value == 0 {
-        return RepresentationRead::Refused(NOT_ALLOWED);
+        return Err(Refusal::NotAllowed);
     }
-    RepresentationRead::Found(RepresentationPlace::Indexed(TableIndex::new(value)), next)
+    Ok((RepresentationPlace::Indexed(TableIndex::new(value)), next))
 }
 
-// The N bit of a literal's first byte.
+// The N bit of a literal's first byte. A byte and no `bool`: it is the first byte of a field in the host's list, which is 0 or 1.
 pub fn flag_of(b: u8) -> u8
     ensures { result ≡ flag_of b }
 {
     if b < NEVER_STORE { 0 } else { 1 }
 }
 
-pub fn read_literal(s: &[u8], at: usize) -> RepresentationRead
+pub fn read_literal(s: &[u8], at: usize) -> Read<RepresentationPlace>
     requires { at < length s.now }
     ensures { result ≡ read_literal s.now at }
 {
     let flag = flag_of(s[at]);
-    let n = read_name(s, at, WireInt::PREFIX6);
-    let NameRead::Found(name, next) = n else {
-        return RepresentationRead::Refused(n.number());
-    };
+    let (name, next) = read_name(s, at, WireInt::PREFIX6)?;
     let v = read_string(s, next, VALUE_LIMIT);
-    let StringRead::Found(value, after) = v else {
-        return RepresentationRead::Refused(v.number());
+    let Ok((value, after)) = v else {
+        return Err(v.unwrap_err());
     };
-    RepresentationRead::Found(RepresentationPlace::Literal(flag, name, value), after)
+    Ok((RepresentationPlace::Literal(flag, name, value), after))
 }
 
 // The representation at the place `at`.
-pub fn read_representation(s: &[u8], at: usize) -> RepresentationRead
+pub fn read_representation(s: &[u8], at: usize) -> Read<RepresentationPlace>
     ensures { result ≡ read_representation s.now at }
 {
     if s.len() <= at {
-        return RepresentationRead::Refused(TRUNCATED);
+        return Err(Refusal::Truncated);
     }
     if s[at] < INDEXED {
         return read_literal(s, at);
@@ -92,20 +72,18 @@ pub fn read_representation(s: &[u8], at: usize) -> RepresentationRead
     read_indexed(s, at)
 }
 
-// The answer to the reading of a whole block: 0, or its first refusal.
-pub fn check_block(s: &[u8]) -> u8
-    ensures { result ≡ (block_answer (read_block s.now)).number }
+// The reading of a whole block: whether it is one, or its first refusal.
+pub fn check_block(s: &[u8]) -> Result<(), Refusal>
+    ensures checked { result ≡ block_checked (read_block s.now) }
+    ensures number { checked_number result ≡ (block_answer (read_block s.now)).number }
 {
     if BLOCK_LIMIT < s.len() {
-        return TOO_LONG;
+        return Err(Refusal::TooLong);
     }
+    // No step is counted, so `for` has none to take: where a representation ends says its reader. An iterator would keep this place and make this call.
     let mut at: usize = 0;
     while at < s.len() {
-        let r = read_representation(s, at);
-        let RepresentationRead::Found(_, next) = r else {
-            return r.number();
-        };
-        at = next;
+        (_, at) = read_representation(s, at)?;
     }
-    DONE
+    Ok(())
 }

@@ -1,10 +1,9 @@
--- Steps of the functions: sizes of numbers beside a place, a number of one byte, one lowered, and the turns of changing numbers alike.
+-- Steps of the functions: sizes of numbers beside a place, a number put in, one lowered, and the turns of changing numbers alike.
 use mathlib.Core.Path.{◌≡◌, sym, ap, ap₂, ◌∙◌}
-use Prim.Native.Nat.{ℕ, suc, ◌+◌, ◌*◌, ◌-◌, ◌%◌, ◌≤◌, ◌<◌}
+use Prim.Native.Nat.{ℕ, suc, ◌+◌, ◌*◌, ◌-◌, ◌≤◌, ◌<◌}
 use native.Mathlib.Omega.{arith}
 use native.Mathlib.Nat.{mul-add}
 use mathlib.Core.List.{List}
-use lib.ListN.{set}
 use lib.Dec.{ltb}
 use borrow.Author.Tests.{lt-ltb, le-ltb}
 use Rattle.memory.specs.Choice.{pick}
@@ -23,14 +22,11 @@ size-split w place count h =
 pub size-about : (w place count : ℕ) → place < count → w * count ≡ w * place + w + w * (count - (place + 1))
 size-about w place count h = omega (arith, size-split w (place + 1) count (omega arith))
 
--- a number of one byte is one store
-pub opened-byte : (m one : List ℕ) (at place count x : ℕ) → x < 256
-    → one ≡ moved m (at + 1 * (place + 1)) (at + 1 * place) (1 * (count - place)) → set one (at + place) x ≡ column_opened 1 m at place count x
-unfolding column_opened number_bytes
-opened-byte m one at place count x h e =
-    let j : at + place ≡ at + 1 * place = omega arith in
-    let v : x ≡ x % 256 = omega arith in
-    ap₂ (set one) j v ∙ ap (λ (l : List ℕ). set l (at + 1 * place) (x % 256)) e
+-- a number's bytes put in at a place
+pub opened : (w : ℕ) (m out bytes : List ℕ) (at place count x : ℕ) → bytes ≡ number_bytes w x
+    → out ≡ overlay (moved m (at + w * (place + 1)) (at + w * place) (w * (count - place))) (at + w * place) bytes → out ≡ column_opened w m at place count x
+unfolding column_opened
+opened w m out bytes at place count x d e = e ∙ ap (overlay (moved m (at + w * (place + 1)) (at + w * place) (w * (count - place))) (at + w * place)) d
 
 -- a number above a limit is lowered by one, and another stays
 abbrev pub lowered : ℕ → ℕ → ℕ

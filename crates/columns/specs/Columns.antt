@@ -1,5 +1,5 @@
 -- A column: numbers of one width, one behind the other. What opening, closing and changing one leave in memory.
-use Rattle.std.specs.Prelude.{ℕ, zero, suc, ◌+◌, ◌*◌, ◌-◌, ◌≡◌, List, [], ◌∷◌, ◌++◌}
+use Rattle.std.specs.Prelude.{ℕ, zero, suc, ◌+◌, ◌*◌, ◌-◌, ◌<◌, ◌≡◌, List, [], ◌∷◌, ◌++◌}
 use Rattle.memory.specs.Bytes.{overlay, moved}
 use Rattle.memory.specs.Numbers.{number, number_bytes}
 
@@ -26,3 +26,7 @@ column_closed w m at place count = moved m (at + w * place) (at + w * (place + 1
 unfoldable pub changed : (ℕ → ℕ) → ℕ → ℕ → List ℕ → ℕ → List ℕ
 changed f w zero m at = m
 changed f w (suc k) m at = changed f w k (overlay m at (number_bytes w (f (number w m at)))) (at + w)
+
+-- each result y at a number x of two bytes has the bytes of g x
+abbrev pub MakesBytesOf : (ℕ → ℕ) → (ℕ → ℕ → Type 0) → Type 0
+MakesBytesOf g post = (x y : ℕ) → x < 65536 → post x y → number_bytes 2 y ≡ number_bytes 2 (g x)

@@ -1,5 +1,5 @@
 // An entry's field and a short literal's, written in the host's list form. Each answers the place after what it wrote.
-ghost use Rattle.std.specs.Prelude.{◌≡◌, ℕ, ◌+◌, ◌-◌, ◌<◌, ◌≤◌, length, get_or};
+ghost use Rattle.std.specs.Prelude.{◌≡◌, ℕ, ◌+◌, ◌-◌, ◌<◌, ◌≤◌, length, get_or, Some};
 ghost use Rattle.memory.specs.Bytes.{overlay};
 ghost use Rattle.statics.specs.Table.{static_text};
 ghost use Rattle.fields.specs.Form.{field_form};
@@ -16,10 +16,9 @@ use copying::copy::copy;
 use entry_places::place::{locate, name_at, row_name, row_value, value_at};
 use field_writing::write::{write_field, write_text};
 use integers::number::TableIndex;
-use short_forms::short::ShortLiteral;
-use table_search::find::{Found, find};
+use table_search::find::find;
 
-// A field of the tables by its index.
+// A field of the tables by its index. An entry stands there, since a field is meant.
 pub fn write_indexed<'a>(
     text: &'a [u8],
     m: &'a [u8],
@@ -33,7 +32,9 @@ pub fn write_indexed<'a>(
     ensures value { result ≡ at + length (field_bytes (field_meant m.now (Representation.indexed index.value))) }
     ensures out_after { out.new ≡ overlay out.old at (field_bytes (field_meant m.now (Representation.indexed index.value))) }
 {
-    let place = locate(m, index);
+    let Some(place) = locate(m, index) else {
+        return at;
+    };
     let name = name_at(text, m, place);
     let value = value_at(text, m, place);
     write_field(0, name, value, out, at)
@@ -62,8 +63,7 @@ pub fn write_dynamic(m: &[u8], index: TableIndex, out: &mut [u8], to: usize) -> 
     ensures value { result ≡ to + length (field_bytes (field_meant m.now (Representation.indexed index.value))) }
     ensures out_after { out.new ≡ overlay out.old to (field_bytes (field_meant m.now (Representation.indexed index.value))) }
 {
-    let f = find(m, index);
-    let Found::At(i) = f else {
+    let Ok(i) = find(m, index) else {
         return to;
     };
     write_row(m, i, out, to)
@@ -71,7 +71,7 @@ pub fn write_dynamic(m: &[u8], index: TableIndex, out: &mut [u8], to: usize) -> 
 
 // A short literal at the place `at`, up to the place `next`: from its second byte on it stands in the block as in the list.
 pub fn write_short(s: &[u8], at: usize, next: usize, out: &mut [u8], to: usize) -> usize
-    requires at_in_bounds { (at < length s.now) × (get_or s.now at 0 < 128) × (short_literal_at s.now at ≡ ShortLiteral.Ends next) }
+    requires at_in_bounds { (at < length s.now) × (get_or s.now at 0 < 128) × (short_literal_at s.now at ≡ Some next) }
     requires at_in_bounds_2 { to + (next - at) ≤ length out.old }
     ensures value { result ≡ to + length (short_form s.now at next) }
     ensures out_after { out.new ≡ overlay out.old to (short_form s.now at next) }

@@ -7,6 +7,7 @@ use mathlib.Core.Bool.{Bool, true, false, ◌||◌}
 use mathlib.Core.Option.{Option, none, some}
 use mathlib.Core.List.{List}
 use borrow.Author.Tests.{le-leb, lt-leb}
+use Rattle.std.specs.Prelude as std
 use Rattle.memory.specs.Choice.{pick}
 use Rattle.memory.proofs.Order.{need-true, need-false}
 use Rattle.integers.specs.Answers.{done, refusal, not_allowed, vacant, not_under_deletion, no_state}
@@ -19,7 +20,7 @@ use Rattle.state.specs.Front.{marks_of}
 use Rattle.state.specs.DecoderState.{delete_at, decoder_of}
 use Rattle.state.specs.Forms.{forms_decoder}
 use Rattle.holds.specs.Hold.{GoodDelete, lowest_case, lowest_told}
-use Rattle.holds.specs.declared.hold.Lowest.{Lowest}
+use Rattle.integers.specs.declared.number.StreamNumber.{StreamNumber}
 use Rattle.holds.proofs.Telling.{told_back}
 use Rattle.table_laws.specs.DecoderChanges.{found, missing}
 use Rattle.reply.specs.Result.{Result, stepped}
@@ -55,7 +56,7 @@ count-few marks d count e = omega (arith, open-few marks d streams)
 pub lowest-low : (marks : Marks) (d : Delete) → lowest_open marks d 0 streams ≤ 4096
 lowest-low marks d = omega (arith, lowest-few marks d 0 streams)
 
-pub lowest-told : (marks : Marks) (d : Delete) (x : Lowest) → x ≡ lowest_case (lowest_open marks d 0 streams) → lowest_told x ≡ lowest_open marks d 0 streams
+pub lowest-told : (marks : Marks) (d : Delete) (x : std.Option StreamNumber) → x ≡ lowest_case (lowest_open marks d 0 streams) → lowest_told x ≡ lowest_open marks d 0 streams
 lowest-told marks d x e = ap lowest_told e ∙ told_back (lowest_open marks d 0 streams) (lowest-low marks d)
 
 -- ---- each way through the call

@@ -24,6 +24,10 @@ pub record Stands (m : List ℕ) : Type 0 where
   pub small : Small m
   pub forms : forms_decoder m ≡ true
 
+-- what a slice lends forms a state where the test says so
+pub formed : (m : List ℕ) → forms_decoder m ≡ true → Small m → Stands m
+formed m f s = record { small = s; forms = f }
+
 -- what a call says and leaves
 pub record Leaves (r : Result) (a : Answer) (after : List ℕ) : Type 0 where
   pub answer : a ≡ r.answer

@@ -1,8 +1,9 @@
 -- The decoder's calls. Each is the test whether memory forms a state, the reading of its bytes, and the model's step; answers stand in document 01's order.
 use Rattle.std.specs.Prelude.{ℕ, List, [], length, leb}
 use Rattle.memory.specs.Choice.{need}
-use Rattle.integers.specs.Answers.{done, over_limit, out_of_turn, no_room, no_state}
-use Rattle.instructions.specs.Reading.{read_for_decoder, on_instruction, instruction_of}
+use Rattle.integers.specs.Answers.{done, over_limit, out_of_turn, no_room, no_state, number_of, on_read}
+use Rattle.integers.specs.declared.answer.Refusal.{Refusal}
+use Rattle.instructions.specs.Reading.{read_for_decoder, instruction_of}
 use Rattle.blocks.specs.Representation.{Representation}
 use Rattle.blocks.specs.Reading.{BlockRead, block, read_block}
 use Rattle.blocks.specs.Reading as reading
@@ -25,12 +26,12 @@ start_call m limit =
 unfoldable pub read_call : List ℕ → List ℕ → Result
 read_call m s =
     need (forms_decoder m) (refused m [] no_state)
-    (on_instruction (refused m []) (read_for_decoder s) (λ p taken. stepped overlay_decoder m [] (read_instruction (decoder_of m) (instruction_of s p) taken)))
+    (on_read (λ (why : Refusal). refused m [] (number_of why)) (read_for_decoder s) (λ p taken. stepped overlay_decoder m [] (read_instruction (decoder_of m) (instruction_of s p) taken)))
 
 -- what follows a whole block, or the refusal passed on
 abbrev pub on_block : (ℕ → Result) → BlockRead → (List Representation → Result) → Result
 on_block refuse (block rs) f = f rs
-on_block refuse (reading.BlockRead.refused number) f = refuse number
+on_block refuse (reading.BlockRead.refused why) f = refuse (number_of why)
 
 -- "Block to decode: 11, block length 13, reading, 1, 12."
 unfoldable pub block_call : List ℕ → ℕ → ℕ → List ℕ → List ℕ → Result

@@ -11,7 +11,10 @@ use lib.ListN.{length}
 use borrow.Author.Tests.{lt-ltb, le-leb, lt-leb, ltb-true, eqb-true}
 use Rattle.memory.specs.Bytes.{overlay}
 use Rattle.memory.proofs.Order.{either, not-both, need-true, need-false}
-use Rattle.integers.specs.Answers.{Answer, done}
+use Rattle.std.specs.Prelude as std
+use Rattle.std.specs.Prelude.{Ok, Err, Some}
+use Rattle.integers.specs.Answers.{Answer, done, number_of}
+use Rattle.integers.specs.declared.answer.Refusal.{Refusal}
 use Rattle.fields.specs.Form.{Field, list_form}
 use Rattle.blocks.specs.Reading.{BlockRead, read_block}
 use Rattle.blocks.specs.Meaning.{BlockMeaning, list}
@@ -24,7 +27,6 @@ use Rattle.state_laws.proofs.DecoderLaws.{decoder-laws}
 use Rattle.parts.specs.Turn.{part_turn, part_in, turn_of}
 use Rattle.parts.specs.Close.{closed_of}
 use Rattle.parts.specs.declared.turn.Part.{Part as PartCase}
-use Rattle.parts.specs.declared.turn.Turn.TheVariants.{Of}
 use Rattle.parts.proofs.Given as parts
 use Rattle.model_laws.proofs.Marks.{part-back}
 use Rattle.integers.specs.declared.number.StreamNumber.{StreamNumber}
@@ -33,7 +35,7 @@ use Rattle.decoder.specs.Calls.{block_call}
 use Rattle.decoder_survey.specs.Measure.{Stands, ReadsWell, meaning_of}
 use Rattle.decoder_survey.specs.Passes.{survey_answer, block_survey}
 use Rattle.decoder_survey.specs.declared.measure.Survey.{Survey}
-use Rattle.decoder_survey.specs.declared.measure.Survey.TheVariants.{Bytes, Waits, Refused}
+use Rattle.decoder_survey.specs.declared.measure.Survey.TheVariants.{Bytes, Waits}
 use Rattle.decoder_survey.proofs.Entries.{changes}
 use Rattle.decoder_survey.proofs.Surveying.{survey-is}
 
@@ -70,7 +72,7 @@ module _ (marks : Marks) (stream part : ℕ) where
 -- ---- the answer that a part is in turn
 
 module _ (marks : Marks) (stream part : ℕ) where
-  pub turned : (s : StreamNumber) (c : PartCase) → turn_of marks stream (part_of part) ≡ Of s c → part_turn marks stream (part_of part) ≡ true
+  pub turned : (s : StreamNumber) (c : PartCase) → turn_of marks stream (part_of part) ≡ Some (s, c) → part_turn marks stream (part_of part) ≡ true
   turned s c e = let g = parts.given marks stream part s c e in rw (g.stream, g.number, part-back (part_in c)) g.turn
 
 -- ---- the ways
@@ -90,10 +92,10 @@ module _ (m : List ℕ) (stream part : ℕ) (s out : List ℕ) where
     unfolding block_call
     out_of_turn e = need-true _ _ _ forms ∙ need-false _ _ _ e
 
-    pub not-read : part_turn (decoder_of m).finished stream (part_of part) ≡ true → (number : ℕ) → read_block s ≡ BlockRead.refused number
-        → block_call m stream part s out ≡ refused m out number
+    not-read : part_turn (decoder_of m).finished stream (part_of part) ≡ true → (why : Refusal) → read_block s ≡ BlockRead.refused why
+        → block_call m stream part s out ≡ refused m out (number_of why)
     unfolding block_call
-    not-read t number e = simp (forms, t, e)
+    not-read t why e = simp (forms, t, e)
 
   module _ (S : Stands m) (T : InTurn (decoder_of m).finished stream part) (w : ReadsWell s) where
     given : (M : BlockMeaning) → meaning_of m s ≡ M
@@ -132,8 +134,8 @@ module _ (m : List ℕ) (stream part : ℕ) (s out : List ℕ) where
           (sym (ap (λ (o : Option Part). closed_of o m stream) T.is ∙ (changes m S).finish stream T.kind T.low))
 
   -- a block that is refused or waits: the survey's answer, and nothing changes
-  pub unwritten : Stands m → part_turn (decoder_of m).finished stream (part_of part) ≡ true → (v : Survey) → ((n : ℕ) → v ≡ Bytes n → ⊥)
+  pub unwritten : Stands m → part_turn (decoder_of m).finished stream (part_of part) ≡ true → (v : std.Result Survey Refusal) → ((n : ℕ) → v ≡ Ok (Bytes n) → ⊥)
       → v ≡ block_survey m s → block_call m stream part s out ≡ record { answer = survey_answer v; memory = m; output = out }
-  unwritten S t (Bytes n) k e = absurd (k n refl)
-  unwritten S t (Waits index) k e = let g = survey-is m s (Waits index) e in waits S (in-turn _ _ _ t) g.0 index.value g.1
-  unwritten S t (Refused number) k e = not-read S.forms t number (survey-is m s (Refused number) e)
+  unwritten S t (Ok (Bytes n)) k e = absurd (k n refl)
+  unwritten S t (Ok (Waits index)) k e = let g = survey-is m s (Ok (Waits index)) e in waits S (in-turn _ _ _ t) g.0 index.value g.1
+  unwritten S t (Err why) k e = not-read S.forms t why (survey-is m s (Err why) e)

@@ -11,12 +11,12 @@ ghost use Rattle.decoder.specs.Calls.{block_call};
 ghost use Rattle.decoder_survey.specs.Measure.{Stands};
 
 use decoder_fields::write::write_fields;
-use decoder_short::block::{Given, give_short};
+use decoder_short::block::give_short;
 use decoder_survey::measure::{Survey, survey_block};
-use integers::answer::{NO_ROOM, NO_STATE, OUT_OF_TURN};
+use integers::answer::Refusal;
 use integers::number::StreamNumber;
 use parts::close::close_after;
-use parts::turn::{Part, Turn, turn_of};
+use parts::turn::{Part, turn_of};
 use reply::Reply;
 use state_test::decoder::forms_decoder;
 use survey_reply::replied::replied;
@@ -49,11 +49,11 @@ fn give_surveyed(m: &mut [u8], stream: u64, part: u64, s: &[u8], out: &mut [u8])
     ensures out_after { out.new ≡ (block_call m.old stream part s.now out.old).output }
 {
     let survey = survey_block(m, s);
-    let Survey::Bytes(n) = survey else {
+    let Ok(Survey::Bytes(n)) = survey else {
         return replied(survey);
     };
     if out.len() < n {
-        return Reply::refused(NO_ROOM);
+        return Reply::because(Refusal::NoRoom);
     }
     write_fields(m, s, out);
     finish(m, stream, part);
@@ -67,13 +67,15 @@ fn give(m: &mut [u8], stream: u64, part: u64, s: &[u8], out: &mut [u8]) -> Reply
     ensures m_after { m.new ≡ (block_call m.old stream part s.now out.old).memory }
     ensures out_after { out.new ≡ (block_call m.old stream part s.now out.old).output }
 {
-    match give_short(m, s, out) {
-        Given::Written(n) => {
+    let Some(given) = give_short(m, s, out) else {
+        return give_surveyed(m, stream, part, s, out);
+    };
+    match given {
+        Ok(n) => {
             finish(m, stream, part);
             Reply::done(n as u32, 0)
         }
-        Given::NoRoom => Reply::refused(NO_ROOM),
-        Given::Other => give_surveyed(m, stream, part, s, out),
+        Err(why) => Reply::because(why),
     }
 }
 
@@ -83,11 +85,11 @@ pub fn block(m: &mut [u8], stream: u64, part: u64, s: &[u8], out: &mut [u8]) -> 
     ensures out_after { out.new ≡ (block_call m.old stream part s.now out.old).output }
 {
     if !forms_decoder(m) {
-        return Reply::refused(NO_STATE);
+        return Reply::because(Refusal::NoState);
     }
     let turn = turn_of(m, stream, part);
-    let Turn::Of(_, _) = turn else {
-        return Reply::refused(OUT_OF_TURN);
+    let Some(_) = turn else {
+        return Reply::because(Refusal::OutOfTurn);
     };
     give(m, stream, part, s, out)
 }

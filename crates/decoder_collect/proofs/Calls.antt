@@ -26,7 +26,7 @@ use Rattle.table_laws.specs.DecoderChanges.{DecoderStands, found}
 use Rattle.reply.specs.Result.{Result, refused, stepped}
 use Rattle.decoder.specs.Calls.{collect_call}
 use Rattle.decoder_collect.specs.Ready.{next_from}
-use Rattle.decoder_collect.specs.declared.collect.Next.TheVariants.{Delete, Nothing}
+use Rattle.std.specs.Prelude.{Some, None}
 use Rattle.decoder_collect.proofs.ReadyDeletes.{changes, none-next, next-index}
 
 -- what a call answers and leaves, by what it is
@@ -44,13 +44,13 @@ module _ (m out : List ℕ) where
     unfolding collect_call collect_entry
     given o e = need-true _ _ _ S.forms ∙ ap (λ (n : Option ℕ). stepped overlay_decoder m out (free_entry (decoder_of m) (length out) n)) e
 
-    pub none_ready : next_from m (delete_count m) 0 ≡ Nothing → collect_call m out ≡ record { answer = done 0 0; memory = m; output = out }
+    pub none_ready : next_from m (delete_count m) 0 ≡ None → collect_call m out ≡ record { answer = done 0 0; memory = m; output = out }
     unfolding stepped free_entry output_bytes
     none_ready e =
         given none (none-next m S e)
         ∙ ap (λ (n : List ℕ). record { answer = done 0 0; memory = n; output = out }) (decoder-laws.self m S.small S.forms)
 
-    module _ (k : ℕ) (e : next_from m (delete_count m) 0 ≡ Delete k) where
+    module _ (k : ℕ) (e : next_from m (delete_count m) 0 ≡ Some k) where
       abbrev index : ℕ
       index = delete_index_at m k
 

@@ -1,19 +1,25 @@
 -- There is no stream with an unfinished named part exactly where the delete is ready.
 -- By induction over the count of streams: an open part stops the search at its stream or below, and nothing else stops it.
-use mathlib.Core.Path.{◌≡◌, refl, ap, ap₂, ◌∙◌}
+use mathlib.Core.Path.{◌≡◌, refl, sym, ap, ap₂, ◌∙◌}
 use mathlib.Core.Logic.{⊎_elim}
 use Prim.Native.Nat.{ℕ, zero, suc, ◌+◌, ◌≤◌, ◌<◌}
 use native.Mathlib.Omega.{arith}
-use mathlib.Core.Bool.{Bool, true, false, ◌||◌, or-true}
+use mathlib.Core.Bool.{Bool, true, false, not, ◌||◌, or-true}
 use Rattle.memory.proofs.Order.{split, either, pick-both, pick-false, not-both}
 use Rattle.integers.specs.declared.number.StreamNumber.{StreamNumber}
 use Rattle.model.specs.Parts.{Part, nontrailer, trailer, Marks, Delete, names_part, is_open, lowest_open, streams, is_ready}
 use Rattle.model_laws.proofs.Marks.{OpenPart, ready_marked, ready-or}
-use Rattle.model_laws.proofs.Tables.{nope}
 use Rattle.holds.specs.Hold.{lowest_case}
-use Rattle.holds.specs.declared.hold.Lowest.{Lowest}
-use Rattle.holds.specs.declared.hold.Lowest.TheVariants.{Stream, Nothing}
+use Rattle.std.specs.Prelude.{Option, Some, None, is_some}
 use Rattle.holds.proofs.Telling.{stream-case, no-case}
+
+not-once : (b : Bool) → not b ≡ false → b ≡ true
+not-once true e = refl
+not-once false e = sym e
+
+not-twice : (b : Bool) → not b ≡ true → b ≡ false
+not-twice true e = sym e
+not-twice false e = refl
 
 module _ (marks : Marks) (d : Delete) where
   abbrev open_at : ℕ → Bool
@@ -54,13 +60,13 @@ module _ (marks : Marks) (d : Delete) where
 
   -- ---- so the stream that is found, or that none is, says which
 
-  abbrev Found : Lowest
+  abbrev Found : Option StreamNumber
   Found = lowest_case (lowest_open marks d 0 streams)
 
-  ready-case : is_ready marks d ≡ true → Found ≡ Nothing
+  ready-case : is_ready marks d ≡ true → Found ≡ None
   ready-case r = no-case (lowest_open marks d 0 streams) (lowest-past streams 0 (λ t p h. none_open r t p (omega arith)))
 
-  held-case : is_ready marks d ≡ false → Found ≡ Stream (record { value = lowest_open marks d 0 streams })
+  held-case : is_ready marks d ≡ false → Found ≡ Some (record { value = lowest_open marks d 0 streams })
   held-case r =
       ⊎_elim (λ q. not-both (is_ready marks d) q r)
       (λ (o : OpenPart marks d streams).
@@ -69,8 +75,8 @@ module _ (marks : Marks) (d : Delete) where
       stream-case (record { value = lowest_open marks d 0 streams }) (lowest_open marks d 0 streams) refl (omega arith))
       (ready-or marks d)
 
-  pub none-holds : Found ≡ Nothing → is_ready marks d ≡ true
-  none-holds e = either (is_ready marks d) (λ r. r) (λ r. let f = held-case r in nope (cc))
-
-  pub one_holds : (x : StreamNumber) → Found ≡ Stream x → is_ready marks d ≡ false
-  one_holds x e = either (is_ready marks d) (λ r. let f = ready-case r in nope (cc)) (λ r. r)
+  pub ready-none : (x : Option StreamNumber) (b : Bool) → x ≡ Found → is_some x ≡ not b → b ≡ is_ready marks d
+  ready-none x b e i =
+      either (is_ready marks d)
+      (λ r. not-once b (sym i ∙ ap is_some (e ∙ ready-case r)) ∙ sym r)
+      (λ r. not-twice b (sym i ∙ ap is_some (e ∙ held-case r)) ∙ sym r)

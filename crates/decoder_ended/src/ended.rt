@@ -3,22 +3,19 @@ ghost use Rattle.std.specs.Prelude.{◌≡◌};
 ghost use Rattle.reply.specs.Reply.{answer_of};
 ghost use Rattle.decoder.specs.Calls.{ended_call};
 
-use integers::answer::{NO_STATE, OUT_OF_TURN};
-use integers::number::StreamNumber;
+use crate::stream::stream_named;
 use parts::close::close_both;
 use reply::Reply;
-use state_test::decoder::forms_decoder;
 
 pub fn ended(m: &mut [u8], stream: u64) -> Reply
     ensures result_value { answer_of result ≡ (ended_call m.old stream).answer }
     ensures m_after { m.new ≡ (ended_call m.old stream).memory }
 {
-    if !forms_decoder(m) {
-        return Reply::refused(NO_STATE);
+    match stream_named(m, stream) {
+        Ok(named) => {
+            close_both(m, named);
+            Reply::done(0, 0)
+        }
+        Err(why) => Reply::because(why),
     }
-    if (StreamNumber::LAST as u64) < stream {
-        return Reply::refused(OUT_OF_TURN);
-    }
-    close_both(m, StreamNumber::new(stream as u16));
-    Reply::done(0, 0)
 }

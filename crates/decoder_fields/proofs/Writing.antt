@@ -11,10 +11,10 @@ use Rattle.fields.specs.Form.{list_form}
 use Rattle.blocks.specs.Reading.{read_representation}
 use Rattle.blocks.specs.Meaning.{FieldMeaning, field, BlockMeaning, list, after_field}
 use Rattle.blocks.specs.declared.read.RepresentationPlace.{RepresentationPlace}
-use Rattle.blocks.specs.declared.read.RepresentationRead.TheVariants.{Found}
 use Rattle.decoder_survey.specs.Measure.{field_at, IsField, field_bytes, ReadsWell, meaning_of, IsList, list_bytes}
 use Rattle.decoder_survey.specs.Passes.{meaning_from, Unwritten}
 use Rattle.decoder_survey.proofs.Rest.{whole, rest-none, turn}
+use Rattle.std.specs.Prelude.{Ok}
 
 -- ---- one field, and what follows it
 
@@ -55,7 +55,7 @@ pub writing-on : (m s out : List ℕ) (to at : ℕ) → Unwritten m s out at to 
 writing-on m s out to at u = record { rest = u; laid = refl; same = refl }
 
 module _ (m s lent goal out : List ℕ) (to at : ℕ) (W : Writing m s lent goal out to at) where
-  module _ (h : at < length s) (p : RepresentationPlace) (next : ℕ) (e : read_representation s at ≡ Found p next) where
+  module _ (h : at < length s) (p : RepresentationPlace) (next : ℕ) (e : read_representation s at ≡ Ok (p, next)) where
     abbrev F : FieldMeaning
     F = field_at m s p
 

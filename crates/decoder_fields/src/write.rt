@@ -10,22 +10,15 @@ ghost use Rattle.decoder_survey.specs.Measure.{Stands, field_at, named_at, liter
 ghost use Rattle.decoder_survey.specs.Passes.{meaning_from, Unwritten};
 ghost use Rattle.decoder_fields.specs.Indexes.{index_in, IsLiteral, row_index};
 
-use blocks::read::{INDEXED, RepresentationPlace, RepresentationRead, read_representation};
+use blocks::read::{INDEXED, RepresentationPlace, read_representation};
 use copied_fields::write::{write_dynamic, write_indexed, write_short};
 use entry_places::place::{locate, name_at};
 use field_writing::write::{write_length, write_text};
 use integers::number::TableIndex;
-use short_forms::short::{ShortIndex, ShortLiteral, read_literal_at, short_index, short_literal};
+use short_forms::short::{read_literal_at, short_index, short_literal};
 use statics::table::{LAST, static_text};
 use wire::name::NamePlace;
 use wire::text::StringPlace;
-
-// What is read at a place of a block: an entry's index and the place after it, or anything else.
-#[derive(Drop)]
-pub enum IndexedRead {
-    Entry(TableIndex, usize),
-    Other,
-}
 
 // A string of `s` with its length before it.
 fn write_string_text(s: &[u8], p: StringPlace, out: &mut [u8], at: usize) -> usize
@@ -38,7 +31,7 @@ fn write_string_text(s: &[u8], p: StringPlace, out: &mut [u8], at: usize) -> usi
     p.copy(s, out, next)
 }
 
-// A literal whose name is an entry's.
+// A literal whose name is an entry's, which stands there, since a field is meant.
 fn write_named<'a>(
     text: &'a [u8],
     m: &'a [u8],
@@ -56,7 +49,9 @@ fn write_named<'a>(
     ensures value { result ≡ at + length (field_bytes (named_at m.now s.now flag index value)) }
     ensures out_after { out.new ≡ overlay out.old at (field_bytes (named_at m.now s.now flag index value)) }
 {
-    let place = locate(m, index);
+    let Some(place) = locate(m, index) else {
+        return at;
+    };
     out[at] = flag;
     let name = name_at(text, m, place);
     let next = write_text(name, out, at + 1);
@@ -109,30 +104,30 @@ fn write_literal_place<'a>(
     }
 }
 
-// The index at the place `at`, if one is read there, whatever its form.
-fn read_any_index(s: &[u8], at: usize) -> IndexedRead
+// The index at the place `at` and the place after it, if one is read there, whatever its form.
+fn read_any_index(s: &[u8], at: usize) -> Option<(TableIndex, usize)>
     ensures { result ≡ index_in (read_representation s.now at) }
 {
     let r = read_representation(s, at);
-    let RepresentationRead::Found(place, next) = r else {
-        return IndexedRead::Other;
+    let Ok((place, next)) = r else {
+        return None;
     };
     let RepresentationPlace::Indexed(index) = place else {
-        return IndexedRead::Other;
+        return None;
     };
-    IndexedRead::Entry(index, next)
+    Some((index, next))
 }
 
 // The same. Most are short, and for these no reader is asked.
-fn read_index(s: &[u8], at: usize) -> IndexedRead
+fn read_index(s: &[u8], at: usize) -> Option<(TableIndex, usize)>
     requires { (at < length s.now) × (128 ≤ get_or s.now at 0) }
     ensures { result ≡ index_in (read_representation s.now at) }
 {
     let i = short_index(s, at);
-    let ShortIndex::Found(index, next) = i else {
+    let Some((index, next)) = i else {
         return read_any_index(s, at);
     };
-    IndexedRead::Entry(index, next)
+    Some((index, next))
 }
 
 // All fields from a place of the block on, whatever their form. The static text is made here, once: 86 instructions. A block does not go back to
@@ -147,17 +142,18 @@ fn write_rest(m: &[u8], s: &[u8], from: usize, out: &mut [u8], start: usize)
     let text = static_text();
     let mut to: usize = start;
     let mut at: usize = from;
+    // No `for`: a representation that was read says where the next begins.
     while at < s.len() {
         if INDEXED <= s[at] {
             let i = read_index(s, at);
-            let IndexedRead::Entry(index, next) = i else {
+            let Some((index, next)) = i else {
                 return;
             };
             to = write_indexed(&text, m, index, out, to);
             at = next;
         } else {
             let r = read_literal_at(s, at);
-            let RepresentationRead::Found(place, next) = r else {
+            let Ok((place, next)) = r else {
                 return;
             };
             to = write_literal_place(&text, m, s, place, out, to);
@@ -167,18 +163,17 @@ fn write_rest(m: &[u8], s: &[u8], from: usize, out: &mut [u8], start: usize)
 }
 
 // The short index of the header table at the place `at`. One function, so that the compiler makes one test of its three.
-fn short_row_index(s: &[u8], at: usize) -> ShortIndex
+fn short_row_index(s: &[u8], at: usize) -> Option<(TableIndex, usize)>
     requires { (at < length s.now) × (128 ≤ get_or s.now at 0) }
     ensures { result ≡ row_index (short_index_at s.now at) }
 {
-    let i = short_index(s, at);
-    let ShortIndex::Found(index, next) = i else {
-        return ShortIndex::Other;
+    let Some((index, next)) = short_index(s, at) else {
+        return None;
     };
     if index.value <= LAST {
-        return ShortIndex::Other;
+        return None;
     }
-    ShortIndex::Found(index, next)
+    Some((index, next))
 }
 
 // All fields of a block that reads well and waits for nothing, from the front of the output. The first that is neither a short literal nor a short
@@ -192,10 +187,11 @@ pub fn write_fields(m: &[u8], s: &[u8], out: &mut [u8])
 {
     let mut to: usize = 0;
     let mut at: usize = 0;
+    // No `for`: a representation that was read says where the next begins.
     while at < s.len() {
         if s[at] < INDEXED {
             let l = short_literal(s, at);
-            let ShortLiteral::Ends(next) = l else {
+            let Some(next) = l else {
                 write_rest(m, s, at, out, to);
                 return;
             };
@@ -203,7 +199,7 @@ pub fn write_fields(m: &[u8], s: &[u8], out: &mut [u8])
             at = next;
         } else {
             let i = short_row_index(s, at);
-            let ShortIndex::Found(index, next) = i else {
+            let Some((index, next)) = i else {
                 write_rest(m, s, at, out, to);
                 return;
             };

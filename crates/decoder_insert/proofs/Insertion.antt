@@ -11,7 +11,9 @@ use lib.Dec.{leb}
 use borrow.Author.Tests.{leb-true}
 use Rattle.memory.specs.Choice.{need}
 use Rattle.memory.proofs.Order.{need-true, need-false}
-use Rattle.integers.specs.Answers.{done, refusal, held, over_limit}
+use Rattle.integers.specs.Answers.{done, refusal, over_limit, number_of}
+use Rattle.integers.specs.declared.answer.Refusal.{Refusal}
+use Rattle.integers.specs.declared.answer.Refusal.TheVariants.{Held as AlreadyHeld, OverLimit}
 use Rattle.instructions.specs.Instruction.{FineIndex}
 use Rattle.model.specs.Table.{size, put}
 use Rattle.model.specs.Outcome.{nothing, Outcome, refuse, finish}
@@ -19,43 +21,45 @@ use Rattle.model.specs.Decoder.{Held, Decoder, held_index, held_size, is_some, w
 use Rattle.state.specs.Layout.{limit_of, held_of, count_of}
 use Rattle.state.specs.DecoderState.{decoder_of}
 use Rattle.table_search.specs.Search.{find_from}
-use Rattle.table_search.specs.declared.find.Found.{Found}
-use Rattle.table_search.specs.declared.find.Found.TheVariants.{At, Vacant}
 use Rattle.table.specs.Changes.{Opening, inserted}
 use Rattle.table_laws.specs.DecoderChanges.{missing}
 use Rattle.table_laws.proofs.Room.{room-claim}
 use Rattle.decoder.proofs.Standing.{Stands, Leaves, steps, changes, low-limit, stays}
-use Rattle.decoder_insert.specs.declared.insert.Judged.{Judged}
-use Rattle.decoder_insert.specs.declared.insert.Judged.TheVariants.{Room, Refused}
+use Rattle.std.specs.Prelude.{Result, Ok, Err}
 use Rattle.decoder_insert.specs.Inserts.{named_insert, judge_found, judged}
 
 -- ---- the judge's ways
 
 module _ (m : List ℕ) (x entry place : ℕ) where
-  pub judged-held : find_from m x (count_of m) 0 ≡ At place → judged m x entry ≡ Refused held
+  pub judged-held : find_from m x (count_of m) 0 ≡ Ok place → judged m x entry ≡ Err AlreadyHeld
   unfolding judged
   judged-held e = ap (judge_found m entry) e
 
-  module _ (e : find_from m x (count_of m) 0 ≡ Vacant place) where
+  module _ (e : find_from m x (count_of m) 0 ≡ Err place) where
     judged-vacant : judged m x entry
-        ≡ need (leb (held_of m + entry) (limit_of m)) (Refused over_limit) (Room place)
+        ≡ need (leb (held_of m + entry) (limit_of m)) (Err OverLimit) (Ok place)
     unfolding judged
     judged-vacant = ap (judge_found m entry) e
 
-    pub judged-over : leb (held_of m + entry) (limit_of m) ≡ false → judged m x entry ≡ Refused over_limit
+    pub judged-over : leb (held_of m + entry) (limit_of m) ≡ false → judged m x entry ≡ Err OverLimit
     judged-over h = judged-vacant ∙ need-false _ _ _ h
 
-    pub judged-room : leb (held_of m + entry) (limit_of m) ≡ true → judged m x entry ≡ Room place
+    pub judged-room : leb (held_of m + entry) (limit_of m) ≡ true → judged m x entry ≡ Ok place
     judged-room h = judged-vacant ∙ need-true _ _ _ h
 
 -- ---- the judge's answer beside the model's
 
 -- what was judged of an entry whose name and value have n and v bytes
-pub record Judgement (m : List ℕ) (x : ℕ) (name value : List ℕ) (n v : ℕ) (j : Judged) : Type 0 where
+pub record Judgement (m : List ℕ) (x : ℕ) (name value : List ℕ) (n v : ℕ) (j : Result ℕ Refusal) : Type 0 where
   pub name-is : length name ≡ n
   pub value-is : length value ≡ v
   pub told : j ≡ judged m x (n + v + 32)
   pub short : n ≤ 255
+
+-- by the lengths that the judge was given
+pub sized : {m name value : List ℕ} {x n v a b : ℕ} {j : Result ℕ Refusal} → length name ≡ n → length value ≡ v → n ≤ 255 → a ≡ n → b ≡ v
+    → j ≡ judged m x (a + b + 32) → Judgement m x name value n v j
+sized {m} {x = x} d e h f g told = record { name-is = d; value-is = e; told = told ∙ ap (judged m x) (ap₂ (λ (c k : ℕ). c + k + 32) f g); short = h }
 
 module _ (m : List ℕ) (st : Stands m) (x : ℕ) (name value : List ℕ) (taken : ℕ) where
   abbrev model : Outcome Decoder
@@ -72,38 +76,38 @@ module _ (m : List ℕ) (st : Stands m) (x : ℕ) (name value : List ℕ) (taken
     vacant : missing m x place
     room : held_of m + entry ≤ limit_of m
 
-  abbrev Agree : Judged → Outcome Decoder → Type 0
-  Agree (Room place) o = Vacancy place × (o ≡ finish grown taken 0 nothing)
-  Agree (Refused number) o = o ≡ refuse (decoder_of m) number
+  abbrev Agree : Result ℕ Refusal → Outcome Decoder → Type 0
+  Agree (Ok place) o = Vacancy place × (o ≡ finish grown taken 0 nothing)
+  Agree (Err why) o = o ≡ refuse (decoder_of m) (number_of why)
 
-  agree-need : (b b' : Bool) (j j' : Judged) (o o' : Outcome Decoder) → b ≡ b' → Agree j o → (b ≡ true → Agree j' o')
+  agree-need : (b b' : Bool) (j j' : Result ℕ Refusal) (o o' : Outcome Decoder) → b ≡ b' → Agree j o → (b ≡ true → Agree j' o')
       → Agree (need b j j') (need b' o o')
   agree-need true b' j j' o o' e h f = subst (λ (t : Bool). Agree j' (need t o o')) e (f refl)
   agree-need false b' j j' o o' e h f = subst (λ (t : Bool). Agree j (need t o o')) e h
 
-  agree-found : (f : Found) → find_from m x (count_of m) 0 ≡ f → Agree (judge_found m entry f) model
+  agree-found : (f : Result ℕ ℕ) → find_from m x (count_of m) 0 ≡ f → Agree (judge_found m entry f) model
   unfolding insert_named size
-  agree-found (At place) e = need-false _ _ _ (ap (λ (o : Option Held). not (is_some o)) ((changes m st).here x place e).1)
-  agree-found (Vacant place) e =
+  agree-found (Ok place) e = need-false _ _ _ (ap (λ (o : Option Held). not (is_some o)) ((changes m st).here x place e).1)
+  agree-found (Err place) e =
       let C = changes m st in
-      subst (Agree (judge_found m entry (Vacant place))) (sym (need-true _ _ _ (ap (λ (o : Option Held). not (is_some o)) (C.nowhere x place e))))
-      (agree-need (leb (held_of m + entry) (limit_of m)) (leb (held_size (decoder_of m).entries + entry) (decoder_of m).limit) (Refused over_limit) (Room place)
+      subst (Agree (judge_found m entry (Err place))) (sym (need-true _ _ _ (ap (λ (o : Option Held). not (is_some o)) (C.nowhere x place e))))
+      (agree-need (leb (held_of m + entry) (limit_of m)) (leb (held_size (decoder_of m).entries + entry) (decoder_of m).limit) (Err OverLimit) (Ok place)
       (refuse (decoder_of m) over_limit) (finish grown taken 0 nothing) (ap₂ leb (ap (λ (h : ℕ). h + entry) C.held) C.limit) refl
       (λ room. (record { vacant = e; room = leb-true _ _ room }, refl)))
 
-  module _ (n v : ℕ) (j : Judged) (J : Judgement m x name value n v j) where
+  module _ (n v : ℕ) (j : Result ℕ Refusal) (J : Judgement m x name value n v j) where
     agree : Agree j model
     unfolding judged
     agree =
         let e : entry ≡ n + v + 32 = omega (arith, J.name-is, J.value-is) in
-        subst (λ (t : Judged). Agree t model) (ap (judged m x) e ∙ sym J.told) (agree-found (find_from m x (count_of m) 0) refl)
+        subst (λ (t : Result ℕ Refusal). Agree t model) (ap (judged m x) e ∙ sym J.told) (agree-found (find_from m x (count_of m) 0) refl)
 
-    pub insert-refused : (number : ℕ) → j ≡ Refused number → Leaves (named_insert m x name value taken) (refusal number) m
-    insert-refused number e = stays m st model number (subst (λ (t : Judged). Agree t model) e agree)
+    pub insert-refused : (why : Refusal) → j ≡ Err why → Leaves (named_insert m x name value taken) (refusal (number_of why)) m
+    insert-refused why e = stays m st model (number_of why) (subst (λ (t : Result ℕ Refusal). Agree t model) e agree)
 
-    module _ (place : ℕ) (e : j ≡ Room place) where
+    module _ (place : ℕ) (e : j ≡ Ok place) where
       admitted : Vacancy place × (model ≡ finish grown taken 0 nothing)
-      admitted = subst (λ (t : Judged). Agree t model) e agree
+      admitted = subst (λ (t : Result ℕ Refusal). Agree t model) e agree
 
       fits : held_of m + (n + v + 32) ≤ 4096
       fits = omega (arith, admitted.0.room, low-limit m st, J.name-is, J.value-is)

@@ -22,14 +22,13 @@ use Rattle.state.specs.Rows.{name_at}
 use Rattle.state.specs.DecoderState.{decoder_of, overlay_decoder}
 use Rattle.table_search.specs.Search.{find_from}
 use Rattle.entry_places.specs.Place.{place_found, locate}
-use Rattle.table_search.specs.declared.find.Found.{Found}
-use Rattle.table_search.specs.declared.find.Found.TheVariants.{At, Vacant}
 use Rattle.entry_places.specs.declared.place.EntryPlace.{EntryPlace}
-use Rattle.entry_places.specs.declared.place.EntryPlace.TheVariants.{Static, Dynamic, Nowhere}
+use Rattle.entry_places.specs.declared.place.EntryPlace.TheVariants.{Static, Dynamic}
 use Rattle.table_laws.specs.DecoderChanges.{found}
 use Rattle.reply.specs.Result.{stepped}
 use Rattle.decoder.proofs.Standing.{Stands, Leaves, changes, stays}
 use Rattle.decoder_insert.specs.Inserts.{named_insert, indexed_insert}
+use Rattle.std.specs.Prelude.{Result, Ok, Err, Option as Perhaps, Some, None}
 
 module _ (m : List ℕ) (st : Stands m) where
   -- the name of the entry in a row has its length
@@ -45,10 +44,10 @@ module _ (m : List ℕ) (st : Stands m) where
     abbrev named : Option (List ℕ)
     named = name_bytes (lookup (decoder_of m)) (indexed y)
 
-    abbrev Names : EntryPlace → Type 0
-    Names (Static i) = ((1 ≤ i.value) × (i.value ≤ 61)) × (i.value ≡ y) × (named ≡ some (static_name i.value))
-    Names (Dynamic row) = found m y row × (named ≡ some (name_at m row))
-    Names Nowhere = named ≡ none
+    abbrev Names : Perhaps EntryPlace → Type 0
+    Names (Some (Static i)) = ((1 ≤ i.value) × (i.value ≤ 61)) × (i.value ≡ y) × (named ≡ some (static_name i.value))
+    Names (Some (Dynamic row)) = found m y row × (named ≡ some (name_at m row))
+    Names None = named ≡ none
 
     static-named : is_static y ≡ true → named ≡ some (static_name y)
     unfolding name_bytes lookup slot_name
@@ -58,29 +57,29 @@ module _ (m : List ℕ) (st : Stands m) where
     unfolding name_bytes lookup
     dynamic-named o h e = ap slot_name (dynamic-slot _ y h ∙ ap slot_in e)
 
-    names-found : is_static y ≡ false → (f : Found) → find_from m y (count_of m) 0 ≡ f → Names (place_found f)
+    names-found : is_static y ≡ false → (f : Result ℕ ℕ) → find_from m y (count_of m) 0 ≡ f → Names (place_found f)
     unfolding slot_in slot_name
-    names-found h (At row) e = (e, dynamic-named _ h ((changes m st).here y row e).1)
-    names-found h (Vacant place) e = dynamic-named none h ((changes m st).nowhere y place e)
+    names-found h (Ok row) e = (e, dynamic-named _ h ((changes m st).here y row e).1)
+    names-found h (Err place) e = dynamic-named none h ((changes m st).nowhere y place e)
 
     names : Names (locate m y)
     unfolding locate
     names =
-        pick-both Names (is_static y) (Static (record { value = y })) (place_found (find_from m y (count_of m) 0))
+        pick-both Names (is_static y) (Some (Static (record { value = y }))) (place_found (find_from m y (count_of m) 0))
         (λ e. (within-static y e, refl, static-named e))
         (λ e. names-found e (find_from m y (count_of m) 0) refl)
 
-    module _ (p : EntryPlace) (told : p ≡ locate m y) where
+    module _ (p : Perhaps EntryPlace) (told : p ≡ locate m y) where
       told_names : Names p
       told_names = subst Names (sym told) names
 
-      pub name-static : (i : TableIndex) → p ≡ Static i → ((1 ≤ i.value) × (i.value ≤ 61)) × (i.value ≡ y) × (named ≡ some (static_name i.value))
+      pub name-static : (i : TableIndex) → p ≡ Some (Static i) → ((1 ≤ i.value) × (i.value ≤ 61)) × (i.value ≡ y) × (named ≡ some (static_name i.value))
       name-static i e = subst Names e told_names
 
-      pub name-row : (row : ℕ) → p ≡ Dynamic row → found m y row × (named ≡ some (name_at m row))
+      pub name-row : (row : ℕ) → p ≡ Some (Dynamic row) → found m y row × (named ≡ some (name_at m row))
       name-row row e = subst Names e told_names
 
-      pub name-nowhere : p ≡ Nowhere → named ≡ none
+      pub name-nowhere : p ≡ None → named ≡ none
       name-nowhere e = subst Names e told_names
 
     -- the insert that has this name

@@ -1,5 +1,5 @@
 // An insert that was read, done on the table: 8, 6, 7. Its name is a string of the input, that of a static entry, or that of an entry of the table.
-ghost use Rattle.std.specs.Prelude.{◌≡◌, true, ◌≤◌, ◌<◌};
+ghost use Rattle.std.specs.Prelude.{◌≡◌, true, ◌+◌, ◌≤◌, ◌<◌};
 ghost use Rattle.wire.specs.Text.{InString, string_length, string_bytes};
 ghost use Rattle.instructions.specs.Instruction.{FineIndex};
 ghost use Rattle.state.specs.Layout.{count_of};
@@ -11,7 +11,7 @@ ghost use Rattle.reply.specs.Reply.{answer_of};
 ghost use Rattle.decoder_insert.specs.Inserts.{named_insert, indexed_insert, judged, judged_number};
 
 use entry_places::place::{EntryPlace, locate};
-use integers::answer;
+use integers::answer::Refusal;
 use integers::number::TableIndex;
 use reply::Reply;
 use state::layout;
@@ -19,43 +19,26 @@ use state::row::name_length_at;
 use statics::table::{static_name, static_text};
 use table_insert::insert::{insert_like, insert_named, insert_strings};
 use table_rows::fits;
-use table_search::find::{Found, find};
+use table_search::find::find;
 use wire::text::StringPlace;
 
-// Where a new entry goes, or why it is refused.
-#[derive(Drop)]
-pub enum Judged {
-    Room(usize),
-    Refused(u8),
-}
-
-impl Judged {
-    pub fn number(self) -> u8
-        ensures { result ≡ judged_number self }
-    {
-        match self {
-            Judged::Room(_) => 0,
-            Judged::Refused(number) => number,
-        }
-    }
-}
-
-// Judges an insert of an entry of this size: 6, 7.
-fn judge(m: &[u8], index: TableIndex, size: usize) -> Judged
+// Where a new entry of this size goes, or why it is refused: 6, 7.
+fn judge(m: &[u8], index: TableIndex, size: usize) -> Result<usize, Refusal>
     requires { (62 ≤ index.value) × (size < 65536) × (forms_decoder m.now ≡ true) }
     ensures { result ≡ judged m.now index.value size }
 {
     let f = find(m, index);
-    let Found::Vacant(place) = f else {
-        return Judged::Refused(answer::HELD);
+    let Err(place) = f else {
+        return Err(Refusal::Held);
     };
     if !fits(m, size) {
-        return Judged::Refused(answer::OVER_LIMIT);
+        return Err(Refusal::OverLimit);
     }
-    Judged::Room(place)
+    Ok(place)
 }
 
-// An insert whose name is a string of `s`.
+// An insert whose name is a string of `s`. The three inserts differ in how long the name is and in how it is put in: one function of them would switch on the
+// kind of name twice, or take two closures and say of each what these contracts say.
 pub fn insert_by_string(
     m: &mut [u8],
     s: &[u8],
@@ -70,14 +53,15 @@ pub fn insert_by_string(
         (string_bytes s.now name) (string_bytes s.now value) taken).answer }
     ensures m_after { m.new ≡ (named_insert m.old index.value
         (string_bytes s.now name) (string_bytes s.now value) taken).memory }
+    ensures number { (answer_of result).number ≡ judged_number (judged m.old index.value (string_length s.now name + string_length s.now value + 32)) }
 {
     let j = judge(
         m,
         index,
         name.length(s) + value.length(s) + layout::ENTRY_SIZE,
     );
-    let Judged::Room(place) = j else {
-        return Reply::refused(j.number());
+    let Ok(place) = j else {
+        return Reply::because(j.unwrap_err());
     };
     insert_strings(m, place, index, s, name, value);
     Reply::done(taken, 0)
@@ -100,8 +84,8 @@ fn insert_by_static(
     let text = static_text();
     let name = static_name(&text, named);
     let j = judge(m, index, name.len() + value.length(s) + layout::ENTRY_SIZE);
-    let Judged::Room(place) = j else {
-        return Reply::refused(j.number());
+    let Ok(place) = j else {
+        return Reply::because(j.unwrap_err());
     };
     insert_named(m, place, index, name, s, value);
     Reply::done(taken, 0)
@@ -118,7 +102,7 @@ fn insert_by_row(
     taken: u32,
 ) -> Reply
     requires fine_index { FineIndex index.value × (forms_decoder m.old ≡ true) }
-    requires m_value { find_from m.old named.value (count_of m.old) 0 ≡ Found.At row }
+    requires m_value { find_from m.old named.value (count_of m.old) 0 ≡ Ok row }
     requires in_string { InString s.now value × (string_length s.now value ≤ 2047) }
     ensures result_value { answer_of result ≡ (named_insert m.old index.value
         (name_at m.old row) (string_bytes s.now value) taken).answer }
@@ -127,8 +111,8 @@ fn insert_by_row(
 {
     let name = name_length_at(m, row) as usize;
     let j = judge(m, index, name + value.length(s) + layout::ENTRY_SIZE);
-    let Judged::Room(place) = j else {
-        return Reply::refused(j.number());
+    let Ok(place) = j else {
+        return Reply::because(j.unwrap_err());
     };
     insert_like(m, place, index, row, s, value);
     Reply::done(taken, 0)
@@ -148,9 +132,11 @@ pub fn insert_by_index(
     ensures result_value { answer_of result ≡ (indexed_insert m.old index.value named.value (string_bytes s.now value) taken).answer }
     ensures m_after { m.new ≡ (indexed_insert m.old index.value named.value (string_bytes s.now value) taken).memory }
 {
-    match locate(m, named) {
+    let Some(place) = locate(m, named) else {
+        return Reply::because(Refusal::Vacant);
+    };
+    match place {
         EntryPlace::Static(i) => insert_by_static(m, s, index, i, value, taken),
         EntryPlace::Dynamic(row) => insert_by_row(m, s, index, named, row, value, taken),
-        EntryPlace::Nowhere => Reply::refused(answer::VACANT),
     }
 }

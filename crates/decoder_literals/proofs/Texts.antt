@@ -10,7 +10,6 @@ use Rattle.memory.specs.Bytes.{part, overlay}
 use Rattle.memory.proofs.Places.{length_part, part-cons}
 use Rattle.memory.proofs.Overlay.{set-overlay}
 use Rattle.integers.specs.Integer.{read_int}
-use Rattle.integers.specs.declared.integer.IntRead.TheVariants.{Value}
 use Rattle.integers.proofs.Groups.{read_int-small}
 use Rattle.huffman.specs.Packing.{Unpacked, unpack}
 use Rattle.unpacking.specs.Waiting.{end_of}
@@ -18,7 +17,6 @@ use Rattle.unpacking.specs.declared.unpack.UnpackedEnd.{UnpackedEnd}
 use Rattle.unpacking.proofs.Progress.{unpack-length}
 use Rattle.wire.specs.Text.{plain_place, string_bytes}
 use Rattle.wire.specs.declared.text.StringPlace.{StringPlace}
-use Rattle.wire.specs.declared.text.StringRead.TheVariants.{Found}
 use Rattle.wire.proofs.Strings.{string-packed, measured-found}
 use Rattle.wire.proofs.TextBounds.{unpacked-bytes}
 use Rattle.short_strings.proofs.ShortStrings.{GoodShort, short-string-found, short-string-good}
@@ -26,6 +24,7 @@ use Rattle.fields.specs.Form.{text_form}
 use Rattle.fields.proofs.Sizes.{form-one}
 use Rattle.decoder_survey.proofs.ShortForms.{short-text}
 use Rattle.decoder_literals.specs.Taking.{TookString}
+use Rattle.std.specs.Prelude.{Ok}
 
 -- two lists with the same bytes before a place have the same before any place below
 pub below : (x y : List ℕ) (n k : ℕ) → k ≤ n → take n x ≡ take n y → take k x ≡ take k y
@@ -50,7 +49,7 @@ module _ (s : List ℕ) (at : ℕ) (lent : List ℕ) (to : ℕ) where
       let size : length bytes ≡ n = ap length b ∙ length_part s (at + 1) n (omega arith) in
       record {
         place = p;
-        reads = λ limit k. G.reads limit k ∙ ap (Found p) (sym d);
+        reads = λ limit k. G.reads limit k ∙ ap (λ (k : ℕ). Ok (p, k)) (sym d);
         ends = omega (arith, e, ap length text);
         fits = omega (arith, e, size);
         written = w ∙ ap (overlay lent to) (sym text);
@@ -74,8 +73,8 @@ module _ (s : List ℕ) (at : ℕ) (lent : List ℕ) (to : ℕ) where
       let most : k ≤ 126 = packed-most size few inside in
       let p : StringPlace = record { start = at + 1; size = size; packed = true; length = k } in
       let z : get_or s at 0 % 128 ≡ size = omega arith in
-      let i : read_int 7 s at ≡ Value (record { value = size }) (at + 1) =
-      read_int-small 7 s at h (get_or s at 0) 128 refl refl (omega arith) ∙ ap (λ (x : ℕ). Value (record { value = x }) (at + 1)) z
+      let i : read_int 7 s at ≡ Ok (record { value = size }, at + 1) =
+      read_int-small 7 s at h (get_or s at 0) 128 refl refl (omega arith) ∙ ap (λ (x : ℕ). Ok (record { value = x }, at + 1)) z
       in
       let bytes : string_bytes s p ≡ u.bytes = sym (unpacked-bytes s p refl) in
       let text : text_form (string_bytes s p) ≡ k ∷ u.bytes = ap text_form bytes ∙ text-one u.bytes (omega arith) in

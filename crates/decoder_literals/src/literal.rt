@@ -1,4 +1,5 @@
-// Strings and literals of a block, each written in the host's list form as it is read.
+// Strings and literals of a block, each written in the host's list form as it is read. Each answers the places after it in the block and in the list. Or it
+// is not for this pass, and what stands in the list from its place on means nothing.
 ghost use Rattle.std.specs.Prelude.{◌≡◌, List, ℕ, ◌+◌, ◌<◌, ◌≤◌, length, get_or};
 ghost use Rattle.decoder_literals.specs.Taking.{StringTaken, FieldTaken};
 
@@ -7,16 +8,8 @@ use copied_fields::write::write_short;
 use copying::copy::copy;
 use integers::byte::wide_size;
 use integers::integer::WireInt;
-use short_forms::short::{ShortLiteral, short_literal};
+use short_forms::short::short_literal;
 use unpacking::unpack::unpack;
-
-// What was taken from a block and written into the list: the places after it in both. Or it is not for this pass, and what stands in the list from its
-// place on means nothing.
-#[derive(Drop)]
-pub enum Taken {
-    Ends(usize, usize),
-    Other,
-}
 
 // The values that the prefix of a string's length has room for, and that of a name's index.
 const LENGTH_SPAN: usize = 1 << WireInt::PREFIX7;
@@ -30,82 +23,88 @@ const LENGTH_ONES: usize = WireInt::ONES7 as usize;
 const PACKED_LONG: usize = 80;
 
 // A packed string, whose length takes one byte on the wire.
-fn take_packed(s: &[u8], at: usize, size: usize, out: &mut [u8], to: usize) -> Taken
+fn take_packed(
+    s: &[u8],
+    at: usize,
+    size: usize,
+    out: &mut [u8],
+    to: usize,
+) -> Option<(usize, usize)>
     requires { (at + 1 + size ≤ length s.now) × (get_or s.now at 0 ≡ 128 + size) × (to + 127 ≤ length out.old) }
     ensures { StringTaken s.now at out.old out.new to result }
 {
     if PACKED_LONG <= size {
-        return Taken::Other;
+        return None;
     }
     let start = at + 1;
     let end = start + size;
     let u = unpack(s, start, end, out, to + 1);
     if !u.whole {
-        return Taken::Other;
+        return None;
     }
     let after = u.next;
     out[to] = (after - (to + 1)) as u8;
-    Taken::Ends(end, after)
+    Some((end, after))
 }
 
 // The string at the place `at`, if its length takes one byte on the wire and in the list.
-pub fn take_string(s: &[u8], at: usize, out: &mut [u8], to: usize) -> Taken
+pub fn take_string(s: &[u8], at: usize, out: &mut [u8], to: usize) -> Option<(usize, usize)>
     requires { to ≤ length out.old }
     ensures { StringTaken s.now at out.old out.new to result }
 {
     if s.len() <= at {
-        return Taken::Other;
+        return None;
     }
     let first = wide_size(s[at]);
     let size = first % LENGTH_SPAN;
     let start = at + 1;
     if s.len() - start < size {
-        return Taken::Other;
+        return None;
     }
     if out.len() - to < LENGTH_ONES {
-        return Taken::Other;
+        return None;
     }
     if LENGTH_ONES < first {
         return take_packed(s, at, size, out, to);
     }
     if first == LENGTH_ONES {
-        return Taken::Other;
+        return None;
     }
     out[to] = s[at];
     let end = start + size;
-    Taken::Ends(end, copy(&s[start..end], out, to + 1))
+    Some((end, copy(&s[start..end], out, to + 1)))
 }
 
 // The literal at the place `at`, if its name is a string.
-fn take_strings(s: &[u8], at: usize, out: &mut [u8], to: usize) -> Taken
+fn take_strings(s: &[u8], at: usize, out: &mut [u8], to: usize) -> Option<(usize, usize)>
     requires { (at < length s.now) × (get_or s.now at 0 < 128) × (to ≤ length out.old) }
     ensures { (m : List ℕ) → FieldTaken m s.now at out.old out.new to result }
 {
     if s[at] % NAME_SPAN != 0 {
-        return Taken::Other;
+        return None;
     }
     if out.len() <= to {
-        return Taken::Other;
+        return None;
     }
     out[to] = flag_of(s[at]);
     let n = take_string(s, at + 1, out, to + 1);
-    let Taken::Ends(next, after) = n else {
-        return Taken::Other;
+    let Some((next, after)) = n else {
+        return None;
     };
     take_string(s, next, out, after)
 }
 
 // The same. One whose strings are plain is copied whole.
-pub fn take_literal(s: &[u8], at: usize, out: &mut [u8], to: usize) -> Taken
+pub fn take_literal(s: &[u8], at: usize, out: &mut [u8], to: usize) -> Option<(usize, usize)>
     requires { (at < length s.now) × (get_or s.now at 0 < 128) × (to ≤ length out.old) }
     ensures { (m : List ℕ) → FieldTaken m s.now at out.old out.new to result }
 {
     let l = short_literal(s, at);
-    let ShortLiteral::Ends(next) = l else {
+    let Some(next) = l else {
         return take_strings(s, at, out, to);
     };
     if out.len() - to < next - at {
-        return Taken::Other;
+        return None;
     }
-    Taken::Ends(next, write_short(s, at, next, out, to))
+    Some((next, write_short(s, at, next, out, to)))
 }

@@ -5,7 +5,8 @@ use Prim.Native.Nat.{ℕ}
 use mathlib.Core.Bool.{false}
 use mathlib.Core.List.{List, []}
 use Rattle.memory.proofs.Order.{need-true, need-false}
-use Rattle.integers.specs.Answers.{refusal, not_allowed, no_state}
+use Rattle.integers.specs.Answers.{refusal, not_allowed, no_state, number_of, on_read}
+use Rattle.integers.specs.declared.answer.Refusal.{Refusal}
 use Rattle.integers.specs.declared.number.TableIndex.{TableIndex}
 use Rattle.wire.specs.Text.{string_bytes}
 use Rattle.stream_lists.specs.StreamList.{list_of}
@@ -13,11 +14,9 @@ use Rattle.wire.specs.declared.text.StringPlace.{StringPlace}
 use Rattle.stream_lists.specs.declared.stream_list.ListPlace.{ListPlace}
 use Rattle.wire.specs.declared.name.NamePlace.{NamePlace}
 use Rattle.wire.specs.declared.name.NamePlace.TheVariants.{Index as NameIndex, Text}
-use Rattle.instructions.specs.Reading.{on_instruction, read_for_decoder, instruction_of}
+use Rattle.instructions.specs.Reading.{read_for_decoder, instruction_of}
 use Rattle.instructions.specs.declared.read.InstructionPlace.{InstructionPlace}
 use Rattle.instructions.specs.declared.read.InstructionPlace.TheVariants.{Insert, Delete, Acknowledge}
-use Rattle.instructions.specs.declared.read.InstructionRead.{InstructionRead}
-use Rattle.instructions.specs.declared.read.InstructionRead.TheVariants.{Found, Refused}
 use Rattle.model.specs.Decoder.{name_bytes, read_instruction}
 use Rattle.state.specs.DecoderState.{decoder_of, overlay_decoder}
 use Rattle.state.specs.Forms.{forms_decoder}
@@ -26,26 +25,32 @@ use Rattle.decoder.specs.Calls.{read_call}
 use Rattle.decoder.proofs.Standing.{Stands, Leaves, same, refuses, stays}
 use Rattle.decoder_read.specs.Steps.{kept_delete}
 use Rattle.decoder_insert.specs.Inserts.{named_insert, indexed_insert}
+use Rattle.std.specs.Prelude.{Ok, Err}
+use Rattle.integers.specs.Answers.{Read}
 
 module _ (m s : List ℕ) where
   pub read-no-state : forms_decoder m ≡ false → Leaves (read_call m s) (refusal no_state) m
   unfolding read_call
   read-no-state e = same (need-false _ _ _ e) (refuses m no_state)
 
-  module _ (st : Stands m) (r : InstructionRead) (told : r ≡ read_for_decoder s) where
+  module _ (st : Stands m) (r : Read InstructionPlace) (told : r ≡ read_for_decoder s) where
     abbrev step : InstructionPlace → ℕ → Result
     step p taken = stepped overlay_decoder m [] (read_instruction (decoder_of m) (instruction_of s p) taken)
 
-    read_as : (t : InstructionRead) → r ≡ t → read_call m s ≡ on_instruction (refused m []) t step
+    -- a refusal of the reader's, passed on
+    abbrev stop : Refusal → Result
+    stop why = refused m [] (number_of why)
+
+    read_as : (t : Read InstructionPlace) → r ≡ t → read_call m s ≡ on_read stop t step
     unfolding read_call
-    read_as t e = need-true _ _ _ st.forms ∙ ap (λ (x : InstructionRead). on_instruction (refused m []) x step) (sym told ∙ e)
+    read_as t e = need-true _ _ _ st.forms ∙ ap (λ (x : Read InstructionPlace). on_read stop x step) (sym told ∙ e)
 
-    pub read-refused : (number : ℕ) → r ≡ Refused number → Leaves (read_call m s) (refusal number) m
-    read-refused number e = same (read_as (Refused number) e) (refuses m number)
+    pub read-refused : (why : Refusal) → r ≡ Err why → Leaves (read_call m s) (refusal (number_of why)) m
+    read-refused why e = same (read_as (Err why) e) (refuses m (number_of why))
 
-    module _ (p : InstructionPlace) (taken : ℕ) (found : r ≡ Found p taken) where
+    module _ (p : InstructionPlace) (taken : ℕ) (found : r ≡ Ok (p, taken)) where
       read_found : (q : InstructionPlace) → p ≡ q → read_call m s ≡ step q taken
-      read_found q e = read_as (Found p taken) found ∙ ap (λ (t : InstructionPlace). step t taken) e
+      read_found q e = read_as (Ok (p, taken)) found ∙ ap (λ (t : InstructionPlace). step t taken) e
 
       pub read-by-index : (i : TableIndex) (name : NamePlace) (value : StringPlace) → p ≡ Insert i name value
           → (named : TableIndex) → name ≡ NameIndex named

@@ -15,11 +15,11 @@ use Rattle.instructions.specs.Instruction.{FineIndex, FineInstruction}
 use Rattle.instructions.specs.Reading.{read_for_decoder, instruction_of, InBytes}
 use Rattle.instructions.specs.declared.read.InstructionPlace.{InstructionPlace}
 use Rattle.instructions.specs.declared.read.InstructionPlace.TheVariants.{Insert, Delete}
-use Rattle.instructions.specs.declared.read.InstructionRead.{InstructionRead}
-use Rattle.instructions.specs.declared.read.InstructionRead.TheVariants.{Found}
 use Rattle.instructions.proofs.Bounds.{decoder-good}
+use Rattle.std.specs.Prelude.{Ok}
+use Rattle.integers.specs.Answers.{Read}
 
-module _ (s : List ℕ) (r : InstructionRead) (told : r ≡ read_for_decoder s) (p : InstructionPlace) (taken : ℕ) (found : r ≡ Found p taken) where
+module _ (s : List ℕ) (r : Read InstructionPlace) (told : r ≡ read_for_decoder s) (p : InstructionPlace) (taken : ℕ) (found : r ≡ Ok (p, taken)) where
   pub taken-fits : taken ≤ 9228
   taken-fits = (decoder-good s p taken (sym told ∙ found)).short
 

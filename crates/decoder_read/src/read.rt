@@ -9,14 +9,14 @@ ghost use Rattle.decoder_read.specs.Steps.{kept_delete};
 
 use decoder_insert::insert::{insert_by_index, insert_by_string};
 use deletes::kept::append_delete;
-use instructions::read::{InstructionPlace, InstructionRead, read_for_decoder};
-use integers::answer;
+use instructions::read::{InstructionPlace, read_for_decoder};
+use integers::answer::Refusal;
 use integers::number::TableIndex;
 use reply::Reply;
 use state::row::status_at;
 use state_test::decoder::forms_decoder;
 use stream_lists::stream_list::ListPlace;
-use table_search::find::{Found, find};
+use table_search::find::find;
 use wire::name::NamePlace;
 
 // A delete: 8, 9. It is kept with its lists.
@@ -36,11 +36,11 @@ fn delete(
         (record { index = index.value; nontrailer = list_of s.now nontrailer; trailer = list_of s.now trailer }) taken).memory }
 {
     let f = find(m, index);
-    let Found::At(place) = f else {
-        return Reply::refused(answer::VACANT);
+    let Ok(place) = f else {
+        return Reply::because(Refusal::Vacant);
     };
     if status_at(m, place) != 0 {
-        return Reply::refused(answer::UNDER_DELETION);
+        return Reply::because(Refusal::UnderDeletion);
     }
     append_delete(m, place, index, s, nontrailer, trailer);
     Reply::done(taken, 0)
@@ -51,11 +51,11 @@ pub fn read(m: &mut [u8], s: &[u8]) -> Reply
     ensures m_after { m.new ≡ (read_call m.old s.now).memory }
 {
     if !forms_decoder(m) {
-        return Reply::refused(answer::NO_STATE);
+        return Reply::because(Refusal::NoState);
     }
     let r = read_for_decoder(s);
-    let InstructionRead::Found(instruction, taken) = r else {
-        return Reply::refused(r.number());
+    let Ok((instruction, taken)) = r else {
+        return Reply::because(r.unwrap_err());
     };
     match instruction {
         InstructionPlace::Insert(index, name, value) => match name {
@@ -70,6 +70,6 @@ pub fn read(m: &mut [u8], s: &[u8]) -> Reply
             trailer,
             taken as u32,
         ),
-        InstructionPlace::Acknowledge(_) => Reply::refused(answer::NOT_ALLOWED),
+        InstructionPlace::Acknowledge(_) => Reply::because(Refusal::NotAllowed),
     }
 }

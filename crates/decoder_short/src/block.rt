@@ -7,22 +7,8 @@ ghost use Rattle.decoder_short.specs.Pass.{FieldsTaken, BlockDecoded, BlockGiven
 use crate::entry::{run, take_row};
 use blocks::read::INDEXED;
 use copying::copy::copy;
-use decoder_literals::literal::{Taken, take_literal};
-
-// The bytes of a block's fields in the buffer. Or the block is not for this pass.
-#[derive(Drop)]
-pub enum Decoded {
-    Bytes(usize),
-    Other,
-}
-
-// What was done with the output: the bytes of a block's fields written there, or there was no room for them. Or the block is not for this pass.
-#[derive(Drop)]
-pub enum Given {
-    Written(usize),
-    NoRoom,
-    Other,
-}
+use decoder_literals::literal::take_literal;
+use integers::answer::Refusal;
 
 // The most bytes that a block has for this pass, and its list.
 const SHORT_BLOCK: usize = 512;
@@ -30,7 +16,7 @@ const SHORT_BLOCK: usize = 512;
 const LIST_ROOM: usize = 1_024;
 
 // A literal whose name is a string, or a row: most fields are one or the other.
-fn take(m: &[u8], s: &[u8], at: usize, out: &mut [u8], to: usize) -> Taken
+fn take(m: &[u8], s: &[u8], at: usize, out: &mut [u8], to: usize) -> Option<(usize, usize)>
     requires { Stands m.now × (at < length s.now) × (to ≤ length out.old) }
     ensures { FieldTaken m.now s.now at out.old out.new to result }
 {
@@ -40,46 +26,46 @@ fn take(m: &[u8], s: &[u8], at: usize, out: &mut [u8], to: usize) -> Taken
     take_row(m, s, at, out, to)
 }
 
-// All fields of the block, from the front of the buffer.
-fn decode(m: &[u8], s: &[u8], out: &mut [u8]) -> Decoded
+// All fields of the block, from the front of the buffer: how many bytes they are. Or the block is not for this pass.
+fn decode(m: &[u8], s: &[u8], out: &mut [u8]) -> Option<usize>
     requires { Stands m.now × (length s.now ≤ 16384) }
     ensures { BlockDecoded m.now s.now out.new result }
 {
     let mut to: usize = 0;
     let mut at: usize = 0;
+    // No `for`: a field that was taken says where the next begins.
     while at < s.len() {
         let l = take(m, s, at, out, to);
-        if let Taken::Ends(next, after) = l {
+        if let Some((next, after)) = l {
             at = next;
             to = after;
         } else {
             let r = run(m, s, at, out, to);
-            let Taken::Ends(next, after) = r else {
-                return Decoded::Other;
+            let Some((next, after)) = r else {
+                return None;
             };
             at = next;
             to = after;
         }
     }
-    Decoded::Bytes(to)
+    Some(to)
 }
 
-// The block's fields, from the front of the output.
-pub fn give_short(m: &[u8], s: &[u8], out: &mut [u8]) -> Given
+// The block's fields, from the front of the output: how many bytes they are, or that there is no room for them. Or the block is not for this pass.
+pub fn give_short(m: &[u8], s: &[u8], out: &mut [u8]) -> Option<Result<usize, Refusal>>
     requires { Stands m.now }
     ensures { BlockGiven m.now s.now out.old out.new result }
 {
     if SHORT_BLOCK < s.len() {
-        return Given::Other;
+        return None;
     }
     let mut list = [0u8; LIST_ROOM];
-    let d = decode(m, s, &mut list);
-    let Decoded::Bytes(n) = d else {
-        return Given::Other;
+    let Some(n) = decode(m, s, &mut list) else {
+        return None;
     };
     if out.len() < n {
-        return Given::NoRoom;
+        return Some(Err(Refusal::NoRoom));
     }
     copy(&list[0..n], out, 0);
-    Given::Written(n)
+    Some(Ok(n))
 }

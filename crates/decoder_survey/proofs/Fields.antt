@@ -16,17 +16,17 @@ use Rattle.fields.specs.Form.{Field, text_form, field_form, field_size}
 use Rattle.fields.proofs.Sizes.{text_form-length, text_size-bound, field_form-split, field_form-positive}
 use Rattle.blocks.specs.Representation.{indexed, literal}
 use Rattle.blocks.specs.Reading.{InBytes}
-use Rattle.blocks.specs.Meaning.{Slot, FieldMeaning, field, field_meaning, on_slot}
+use Rattle.blocks.specs.Meaning.{Slot, vacant, FieldMeaning, field, field_meaning, on_slot}
 use Rattle.blocks.specs.declared.read.RepresentationPlace.{RepresentationPlace}
 use Rattle.blocks.specs.declared.read.RepresentationPlace.TheVariants.{Indexed, Literal}
 use Rattle.model.specs.Decoder.{lookup}
 use Rattle.state.specs.DecoderState.{decoder_of}
-use Rattle.entry_places.specs.Place.{locate, Here}
+use Rattle.entry_places.specs.Place.{locate}
 use Rattle.entry_places.specs.declared.place.EntryPlace.{EntryPlace}
-use Rattle.entry_places.specs.declared.place.EntryPlace.TheVariants.{Static, Dynamic, Nowhere}
-use Rattle.decoder_survey.specs.declared.measure.Measured.TheVariants.{Bytes}
+use Rattle.std.specs.Prelude.{Option, Some, None}
+use Rattle.decoder_survey.specs.declared.measure.Survey.TheVariants.{Bytes}
 use Rattle.decoder_survey.specs.Measure.{Stands, field_meant, field_at, IsField, field_bytes, field_measured}
-use Rattle.decoder_survey.proofs.Entries.{entry_of, slot_of, Located, located}
+use Rattle.decoder_survey.proofs.Entries.{entry_of, Located, Looked, looked}
 
 -- ---- the bytes of a field
 
@@ -89,37 +89,30 @@ unfolding field_meant field_meaning
 means-literal m flag name value = refl
 
 module _ (m : List ℕ) (i : ℕ) (f : Entry → Field) {F : FieldMeaning} (N : Names m i f F) where
-  by-slot : (p : EntryPlace) → Located m i p → F ≡ on_slot i (slot_of m p) f
-  by-slot p L = N ∙ ap (λ (s : Slot). on_slot i s f) L.means
+  by-slot : {slot : Slot} → lookup (decoder_of m) i ≡ slot → F ≡ on_slot i slot f
+  by-slot e = N ∙ ap (λ (s : Slot). on_slot i s f) e
 
-  pub found : (p : EntryPlace) → Located m i p → Here p → F ≡ field (f (entry_of m p))
-  found (Static index) L h = by-slot (Static index) L
-  found (Dynamic row) L h = by-slot (Dynamic row) L
-  found Nowhere L h = absurd h
+  pub found : (p : EntryPlace) → Located m i p → F ≡ field (f (entry_of m p))
+  found p L = by-slot L.means
 
-  pub waiting : {p : EntryPlace} → Located m i p → p ≡ Nowhere → F ≡ FieldMeaning.waits i
-  waiting {p} L e = by-slot p L ∙ ap (λ (q : EntryPlace). on_slot i (slot_of m q) f) e
+  pub waiting : lookup (decoder_of m) i ≡ vacant → F ≡ FieldMeaning.waits i
+  waiting e = by-slot e
 
   -- an entry stands where a field is meant
-  pub standing : (p : EntryPlace) → Located m i p → IsField F → Here p
-  standing (Static index) L h = tt
-  standing (Dynamic row) L h = tt
-  standing Nowhere L h = subst IsField (by-slot Nowhere L) h
+  pub standing : IsField F → lookup (decoder_of m) i ≡ vacant → ⊥
+  standing h e = subst IsField (waiting e) h
 
-  named-most : (p : EntryPlace) → Located m i p → Short (f (entry_of m p)) → length (field_bytes F) ≤ 2307
-  named-most (Static index) L h = most (f (entry_of m (Static index))) (by-slot (Static index) L) h
-  named-most (Dynamic row) L h = most (f (entry_of m (Dynamic row))) (by-slot (Dynamic row) L) h
-  named-most Nowhere L h = rw (by-slot Nowhere L) (omega arith)
+  named-most : (o : Option EntryPlace) → Looked m i o → ((p : EntryPlace) → Located m i p → Short (f (entry_of m p))) → length (field_bytes F) ≤ 2307
+  named-most (Some p) L h = most (f (entry_of m p)) (found p L) (h p L)
+  named-most None L h = rw (waiting L) (omega arith)
 
 pub field_bound : (m : List ℕ) → Stands m → (s : List ℕ) (r : RepresentationPlace) → InBytes s r
     → length (field_bytes (field_at m s r)) ≤ 2307
 field_bound m S s (Indexed index) h =
-    let L = located m S index.value refl in
-    named-most m index.value _ (names-entry m index.value) (locate m index.value) L (L.name, L.value)
+    named-most m index.value _ (names-entry m index.value) (locate m index.value) (looked m S index.value refl) (λ p L. (L.name, L.value))
 field_bound m S s (Literal flag (Index index) value) h =
-    let L = located m S index.value refl in
-    named-most m index.value _ (names-name m index.value flag (string_bytes s value)) (locate m index.value) L
-    (L.name, omega (arith, string-size s value h.2, h.3))
+    named-most m index.value _ (names-name m index.value flag (string_bytes s value)) (locate m index.value) (looked m S index.value refl)
+    (λ p L. (L.name, omega (arith, string-size s value h.2, h.3)))
 field_bound m S s (Literal flag (Text name) value) h =
     most _ (means-literal m flag (string_bytes s name) (string_bytes s value))
     (omega (arith, string-size s name h.1.0, h.1.1), omega (arith, string-size s value h.2, h.3))

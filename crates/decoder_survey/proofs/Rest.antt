@@ -7,7 +7,6 @@ use lib.ListN.{length}
 use Rattle.blocks.specs.Reading.{BlockRead, block, refused, read_block, representation_of, read_representation}
 use Rattle.blocks.specs.Meaning.{list, after_field, block_meaning}
 use Rattle.blocks.specs.declared.read.RepresentationPlace.{RepresentationPlace}
-use Rattle.blocks.specs.declared.read.RepresentationRead.TheVariants.{Found, Refused}
 use Rattle.blocks.proofs.Whole.{block-short}
 use Rattle.blocks.proofs.Fuel.{prefixed, block_at, read_at, at-end, at-refused, at_more}
 use Rattle.blocks.proofs.MeaningLaws.{meaning-nil, meaning-cons}
@@ -15,6 +14,8 @@ use Rattle.model.specs.Decoder.{lookup}
 use Rattle.state.specs.DecoderState.{decoder_of}
 use Rattle.decoder_survey.specs.Measure.{field_meant, field_at, ReadsWell, representations, meaning_of}
 use Rattle.decoder_survey.specs.Passes.{ReadsOn, meaning_from}
+use Rattle.std.specs.Prelude.{Ok, Err}
+use Rattle.integers.specs.declared.answer.Refusal.{Refusal}
 
 -- ---- all of it
 
@@ -39,9 +40,9 @@ rest-none m s at h =
 
 -- ---- a turn
 
-pub no-refusal : {X : Type 0} (s : List ℕ) (at : ℕ) → ReadsOn s at → at < length s → (number : ℕ) → read_representation s at ≡ Refused number → X
-no-refusal s at (rs, e) h number d =
-    let f : refused number ≡ block rs = sym (at-refused s at h number d) ∙ e in
+pub no-refusal : {X : Type 0} (s : List ℕ) (at : ℕ) → ReadsOn s at → at < length s → (why : Refusal) → read_representation s at ≡ Err why → X
+no-refusal s at (rs, e) h why d =
+    let f : refused why ≡ block rs = sym (at-refused s at h why d) ∙ e in
     let z : ◌≡◌ {A = ℕ} 0 1 = cc in
     absurd (omega arith)
 
@@ -49,7 +50,7 @@ pub record Turn (m s : List ℕ) (at : ℕ) (p : RepresentationPlace) (next : �
   pub reads : ReadsOn s next
   pub means : meaning_from m s at ≡ after_field (field_at m s p) (meaning_from m s next)
 
-pub turn : (m s : List ℕ) (at : ℕ) → ReadsOn s at → at < length s → (p : RepresentationPlace) (next : ℕ) → read_representation s at ≡ Found p next
+pub turn : (m s : List ℕ) (at : ℕ) → ReadsOn s at → at < length s → (p : RepresentationPlace) (next : ℕ) → read_representation s at ≡ Ok (p, next)
     → Turn m s at p next
 unfolding meaning_from field_meant
 turn m s at (rs, e) h p next d = go (block_at s next) refl
@@ -58,8 +59,8 @@ turn m s at (rs, e) h p next d = go (block_at s next) refl
     more = at_more s at h p next d
 
     go : (b : BlockRead) → block_at s next ≡ b → Turn m s at p next
-    go (refused number) g =
-        let f : refused number ≡ block rs = sym (more ∙ ap (prefixed (representation_of s p ∷ [])) g) ∙ e in
+    go (refused why) g =
+        let f : refused why ≡ block rs = sym (more ∙ ap (prefixed (representation_of s p ∷ [])) g) ∙ e in
         let z : ◌≡◌ {A = ℕ} 0 1 = cc in
         absurd (omega arith)
     go (block qs) g =

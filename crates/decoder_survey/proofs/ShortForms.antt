@@ -19,13 +19,12 @@ use Rattle.blocks.specs.Reading.{flag_of, read_representation}
 use Rattle.short_forms.specs.Short.{short_literal_at}
 use Rattle.blocks.specs.declared.read.RepresentationPlace.{RepresentationPlace}
 use Rattle.blocks.specs.declared.read.RepresentationPlace.TheVariants.{Literal}
-use Rattle.blocks.specs.declared.read.RepresentationRead.TheVariants.{Found}
-use Rattle.short_forms.specs.declared.short.ShortLiteral.TheVariants.{Ends}
 use Rattle.short_forms.proofs.ShortReads.{ShortRead, short-literal-reads}
-use Rattle.decoder_survey.specs.declared.measure.Measured.TheVariants.{Bytes}
+use Rattle.decoder_survey.specs.declared.measure.Survey.TheVariants.{Bytes}
 use Rattle.decoder_survey.specs.Measure.{field_at, literal_at, IsField, field_bytes, field_measured}
 use Rattle.decoder_survey.specs.Passes.{short_form}
 use Rattle.decoder_survey.proofs.Fields.{means-literal}
+use Rattle.std.specs.Prelude.{Ok, Some}
 
 -- a string whose length takes one byte has the same bytes in the list, length and all
 pub short-text : (s : List ℕ) (at : ℕ) (p : StringPlace) (next : ℕ) → GoodShort s at p next → text_form (string_bytes s p) ≡ part s at (suc p.size)
@@ -42,14 +41,14 @@ pub short-length : (s : List ℕ) (at next : ℕ) → at < next → next ≤ len
 short-length s at next h k = omega (arith, length_part s (at + 1) (next - (at + 1)) (omega arith))
 
 -- where one ends
-pub short-ends : (s : List ℕ) (at next : ℕ) → at < length s → get_or s at 0 < 128 → short_literal_at s at ≡ Ends next → (at < next) × (next ≤ length s)
+pub short-ends : (s : List ℕ) (at next : ℕ) → at < length s → get_or s at 0 < 128 → short_literal_at s at ≡ Some next → (at < next) × (next ≤ length s)
 short-ends s at next h low e =
     let R = short-literal-reads s at h low next e in
     (omega (arith, R.front.ends, R.back.ends), R.back.inside)
 
 pub record ShortReads (m s : List ℕ) (at next : ℕ) : Type 0 where
   pub place : RepresentationPlace
-  pub reads : read_representation s at ≡ Found place next
+  pub reads : read_representation s at ≡ Ok (place, next)
   pub past : at < next
   pub inside : next ≤ length s
   pub meant : IsField (field_at m s place)
@@ -70,7 +69,7 @@ same-form s at next R =
     ∙ sym (part-split s (at + 1) (suc n) (suc v))
     ∙ ap (part s (at + 1)) (sym k))
 
-pub short-reads : (m s : List ℕ) (at next : ℕ) → at < length s → get_or s at 0 < 128 → short_literal_at s at ≡ Ends next → ShortReads m s at next
+pub short-reads : (m s : List ℕ) (at next : ℕ) → at < length s → get_or s at 0 < 128 → short_literal_at s at ≡ Some next → ShortReads m s at next
 short-reads m s at next h low e =
     let R = short-literal-reads s at h low next e in
     let k = short-ends s at next h low e in

@@ -16,8 +16,8 @@ use Rattle.blocks.specs.declared.read.RepresentationPlace.TheVariants.{Literal}
 use Rattle.model.specs.Decoder.{lookup}
 use Rattle.state.specs.DecoderState.{decoder_of}
 use Rattle.table_laws.specs.DecoderChanges.{DecoderStands}
-use Rattle.decoder_survey.specs.declared.measure.Measured.{Measured}
-use Rattle.decoder_survey.specs.declared.measure.Measured.TheVariants.{Bytes, Waits}
+use Rattle.decoder_survey.specs.declared.measure.Survey.{Survey}
+use Rattle.decoder_survey.specs.declared.measure.Survey.TheVariants.{Bytes, Waits}
 
 -- memory that forms a decoder's state
 abbrev pub Stands : List ℕ → Type 0
@@ -55,7 +55,7 @@ abbrev pub field_bytes : FieldMeaning → List ℕ
 field_bytes (field f) = field_form f
 field_bytes (meaning.FieldMeaning.waits i) = []
 
-abbrev pub field_measured : FieldMeaning → Measured
+abbrev pub field_measured : FieldMeaning → Survey
 field_measured (field f) = Bytes (length (field_form f))
 field_measured (meaning.FieldMeaning.waits i) = Waits (record { value = i })
 
@@ -68,7 +68,7 @@ ReadsWell s = (rs : List Representation) × (read_block s ≡ block rs)
 -- its representations
 abbrev pub representations : BlockRead → List Representation
 representations (block rs) = rs
-representations (reading.BlockRead.refused number) = []
+representations (reading.BlockRead.refused why) = []
 
 -- what they mean against the table in memory
 unfoldable pub meaning_of : List ℕ → List ℕ → BlockMeaning
@@ -83,6 +83,6 @@ abbrev pub list_bytes : BlockMeaning → List ℕ
 list_bytes (list fs) = list_form fs
 list_bytes (meaning.BlockMeaning.waits i) = []
 
-abbrev pub block_measured : BlockMeaning → Measured
+abbrev pub block_measured : BlockMeaning → Survey
 block_measured (list fs) = Bytes (length (list_form fs))
 block_measured (meaning.BlockMeaning.waits i) = Waits (record { value = i })

@@ -1,31 +1,28 @@
 -- What the two passes over a block find and write: its representations from a place on, one after the other.
-use Rattle.std.specs.Prelude.{ℕ, ◌+◌, ◌-◌, ◌≤◌, ◌≡◌, List, [], ◌∷◌, length, get_or}
+use Rattle.std.specs.Prelude.{ℕ, ◌+◌, ◌-◌, ◌≤◌, ◌≡◌, List, [], ◌∷◌, length, get_or, Result, Ok, Err}
 use Rattle.memory.specs.Bytes.{part}
-use Rattle.integers.specs.Answers.{Answer, done, refusal}
+use Rattle.integers.specs.Answers.{Answer, done, refusal, number_of, Read, on_read}
+use Rattle.integers.specs.declared.answer.Refusal.{Refusal}
 use Rattle.integers.specs.declared.number.TableIndex.{TableIndex}
 use Rattle.fields.specs.Form.{Field}
 use Rattle.blocks.specs.Representation.{Representation}
-use Rattle.blocks.specs.Reading.{BlockRead, block, block_from, read_block, flag_of, on_representation, read_representation}
+use Rattle.blocks.specs.Reading.{BlockRead, block, block_from, read_block, flag_of, read_representation}
 use Rattle.blocks.specs.Reading as reading
 use Rattle.blocks.specs.Meaning.{BlockMeaning, block_meaning}
 use Rattle.model.specs.Decoder.{lookup}
 use Rattle.state.specs.Rows.{name_at, value_at}
 use Rattle.state.specs.DecoderState.{decoder_of}
 use Rattle.decoder_survey.specs.Measure.{waits_for, field_at, field_measured, representations, IsList, list_bytes, block_measured}
-use Rattle.decoder_survey.specs.declared.measure.Measured.{Measured}
-use Rattle.decoder_survey.specs.declared.measure.Measured.TheVariants.{Bytes as MeasuredBytes, Waits as MeasuredWaits}
-use Rattle.decoder_survey.specs.declared.measure.Step.{Step}
-use Rattle.decoder_survey.specs.declared.measure.Step.TheVariants.{Field as StepField, Waits as StepWaits, Refused as StepRefused}
 use Rattle.decoder_survey.specs.declared.measure.Survey.{Survey}
-use Rattle.decoder_survey.specs.declared.measure.Survey.TheVariants.{Bytes, Waits, Refused}
+use Rattle.decoder_survey.specs.declared.measure.Survey.TheVariants.{Bytes, Waits}
 
 -- ---- answers
 
 -- of a whole block: the bytes of its fields are told, or the index that is waited for
-abbrev pub survey_answer : Survey → Answer
-survey_answer (Bytes n) = done n 0
-survey_answer (Waits index) = waits_for index
-survey_answer (Refused number) = refusal number
+abbrev pub survey_answer : Result Survey Refusal → Answer
+survey_answer (Ok (Bytes n)) = done n 0
+survey_answer (Ok (Waits index)) = waits_for index
+survey_answer (Err why) = refusal (number_of why)
 
 -- ---- entries
 
@@ -41,37 +38,29 @@ short_form s at next = flag_of (get_or s at 0) ∷ part s (at + 1) (next - (at +
 
 -- ---- the first pass
 
-abbrev pub step_of : Measured → ℕ → Step
-step_of (MeasuredBytes n) next = StepField n next
-step_of (MeasuredWaits index) next = StepWaits index next
-
--- the representation at the place at
-abbrev pub step_at : List ℕ → List ℕ → ℕ → Step
-step_at m s at = on_representation StepRefused (read_representation s at) (λ p next. step_of (field_measured (field_at m s p)) next)
+-- the representation at the place at, and the place after it
+abbrev pub step_at : List ℕ → List ℕ → ℕ → Read Survey
+step_at m s at = on_read Err (read_representation s at) (λ p next. Ok (field_measured (field_at m s p), next))
 
 -- the block from the place at on
 abbrev pub rest_at : List ℕ → ℕ → BlockRead
 rest_at s at = block_from (length s - at) s at []
 
 -- a refusal comes before the index that is waited for
-abbrev pub waits_unless : TableIndex → BlockRead → Survey
-waits_unless index (block rs) = Waits index
-waits_unless index (reading.BlockRead.refused number) = Refused number
-
-abbrev pub survey_measured : Measured → Survey
-survey_measured (MeasuredBytes n) = Bytes n
-survey_measured (MeasuredWaits index) = Waits index
+abbrev pub waits_unless : TableIndex → BlockRead → Result Survey Refusal
+waits_unless index (block rs) = Ok (Waits index)
+waits_unless index (reading.BlockRead.refused why) = Err why
 
 -- the refusal, or the measure of what the block means
-abbrev pub survey_of : List ℕ → BlockRead → Survey
-survey_of m (block rs) = survey_measured (block_measured (block_meaning (lookup (decoder_of m)) rs))
-survey_of m (reading.BlockRead.refused number) = Refused number
+abbrev pub survey_of : List ℕ → BlockRead → Result Survey Refusal
+survey_of m (block rs) = Ok (block_measured (block_meaning (lookup (decoder_of m)) rs))
+survey_of m (reading.BlockRead.refused why) = Err why
 
-unfoldable pub block_survey : List ℕ → List ℕ → Survey
+unfoldable pub block_survey : List ℕ → List ℕ → Result Survey Refusal
 block_survey m s = survey_of m (read_block s)
 
 -- a field takes at most 2,307 bytes and a byte of the block at least, so the told number has room for the fields of a block
-abbrev pub ToldSurvey : Survey → Type 0
+abbrev pub ToldSurvey : Result Survey Refusal → Type 0
 ToldSurvey r = (survey_answer r).number ≡ 0 → (survey_answer r).first ≤ 37797888
 
 -- ---- the second pass

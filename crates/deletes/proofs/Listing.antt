@@ -12,21 +12,21 @@ use Rattle.memory.proofs.Numbers.{length-number_bytes}
 use Rattle.integers.specs.declared.number.StreamNumber.{StreamNumber}
 use Rattle.stream_lists.specs.StreamList.{read_delta, read_deltas, streams_from, list_of, InList}
 use Rattle.stream_lists.specs.declared.stream_list.ListPlace.{ListPlace}
-use Rattle.stream_lists.specs.declared.stream_list.DeltaRead.{DeltaRead}
-use Rattle.stream_lists.specs.declared.stream_list.DeltaRead.TheVariants.{Stream, Refused}
-use Rattle.stream_lists.specs.declared.stream_list.DeltasRead.TheVariants.{End}
 use Rattle.stream_lists.proofs.ListLaws.{deltas-refused, deltas-more, streams-end, streams-more}
 use Rattle.stream_lists.proofs.ListBounds.{delta-good, deltas-good}
 use Rattle.state.specs.DecoderState.{streams_bytes}
+use Rattle.std.specs.Prelude.{Ok, Err}
+use Rattle.integers.specs.Answers.{Read}
+use Rattle.integers.specs.declared.answer.Refusal.{Refusal}
 
 -- i of the streams are stored: the others, stored over `now`, give the whole
 pub record Left (s whole : List ℕ) (at count i : ℕ) (now : List ℕ) (last place : ℕ) : Type 0 where
   pub near : last ≤ 4096
   pub stored : whole ≡ overlay now (at + 2 * i) (streams_bytes (streams_from (count - i) s place last))
   pub end : ℕ
-  pub deltas : read_deltas (count - i) s place last ≡ End end
+  pub deltas : read_deltas (count - i) s place last ≡ Ok end
 
-pub left-all : (s m : List ℕ) (at count place horizon end : ℕ) → horizon ≤ 4096 → read_deltas count s place horizon ≡ End end
+pub left-all : (s m : List ℕ) (at count place horizon end : ℕ) → horizon ≤ 4096 → read_deltas count s place horizon ≡ Ok end
     → Left s (overlay m at (streams_bytes (streams_from count s place horizon))) at count 0 m horizon place
 left-all s m at count place horizon end h e =
     let a : at + 2 * 0 ≡ at = omega arith in
@@ -41,14 +41,14 @@ module _ (s whole : List ℕ) (at count i : ℕ) (now : List ℕ) (last place : 
       h.stored ∙ ap (λ (k : ℕ). overlay now (at + 2 * i) (streams_bytes (streams_from k s place last))) n
       ∙ ap (λ (xs : List ℕ). overlay now (at + 2 * i) (streams_bytes xs)) (streams-end s place last)
 
-  module _ (l : i < count) (r : DeltaRead) (e : r ≡ read_delta s place last) where
-    pub never-refused : (number : ℕ) → r ≡ Refused number → ⊥
-    never-refused number d =
-        let u = deltas-refused s place last r e (count - i) (omega arith) number d in
+  module _ (l : i < count) (r : Read StreamNumber) (e : r ≡ read_delta s place last) where
+    pub never-refused : (why : Refusal) → r ≡ Err why → ⊥
+    never-refused why d =
+        let u = deltas-refused s place last r e (count - i) (omega arith) why d in
         let v = h.deltas in
         let z : ◌≡◌ {A = ℕ} 0 1 = cc in omega arith
 
-    pub left_less : (x : StreamNumber) (next : ℕ) → r ≡ Stream x next → (one : List ℕ) → one ≡ overlay now (at + 2 * i) (number_bytes 2 x.value)
+    pub left_less : (x : StreamNumber) (next : ℕ) → r ≡ Ok (x, next) → (one : List ℕ) → one ≡ overlay now (at + 2 * i) (number_bytes 2 x.value)
         → Left s whole at count (i + 1) one x.value next
     unfolding streams_bytes
     left_less x next d one f =

@@ -16,7 +16,7 @@ use state::kept::{
 };
 use state::layout::{DELETE_LENGTH, LISTED_BYTES, STATUSES, delete_place};
 use state::row::put_status;
-use stream_lists::stream_list::{DeltaRead, ListPlace, read_delta};
+use stream_lists::stream_list::{ListPlace, read_delta};
 
 // Stores the streams that the list's deltas say.
 fn put_streams(m: &mut [u8], at: usize, s: &[u8], list: ListPlace)
@@ -27,16 +27,13 @@ fn put_streams(m: &mut [u8], at: usize, s: &[u8], list: ListPlace)
     let count = list.count as usize;
     let mut last = list.horizon;
     let mut place = list.deltas;
-    let mut i: usize = 0;
-    while i < count {
-        let r = read_delta(s, place, last);
-        let DeltaRead::Stream(stream, next) = r else {
+    for i in 0..count {
+        let Ok((stream, next)) = read_delta(s, place, last) else {
             return;
         };
         put_listed(m, at, i, stream);
         last = stream.value as u32;
         place = next;
-        i += 1;
     }
 }
 

@@ -1,11 +1,12 @@
 -- The encoder's calls. Each is the test whether memory forms a state, the reading of its bytes, and the model's step; answers stand in document 01's order.
 use Rattle.std.specs.Prelude.{ℕ, List, [], length, leb}
 use Rattle.memory.specs.Choice.{need}
-use Rattle.integers.specs.Answers.{done, over_limit, not_allowed, out_of_turn, no_room, no_state}
+use Rattle.integers.specs.Answers.{done, over_limit, not_allowed, out_of_turn, no_room, no_state, number_of, on_read}
+use Rattle.integers.specs.declared.answer.Refusal.{Refusal}
 use Rattle.fields.specs.Form.{Field}
 use Rattle.fields.specs.Reading.{FieldListRead, list, read_field_list}
 use Rattle.fields.specs.Reading as reading
-use Rattle.instructions.specs.Reading.{read_for_encoder, on_instruction}
+use Rattle.instructions.specs.Reading.{read_for_encoder}
 use Rattle.instructions.specs.declared.read.InstructionPlace.{InstructionPlace}
 use Rattle.instructions.specs.declared.read.InstructionPlace.TheVariants.{Insert, Delete, Acknowledge}
 use Rattle.model.specs.Parts.{part_of}
@@ -36,7 +37,7 @@ delete_call m index out =
 -- what follows a whole field list, or the refusal passed on
 abbrev pub on_list : (ℕ → Result) → FieldListRead → (List Field → Result) → Result
 on_list stop (list fs) f = f fs
-on_list stop (reading.FieldListRead.refused number) f = stop number
+on_list stop (reading.FieldListRead.refused why) f = stop (number_of why)
 
 -- "Block to write: 11, the list left to right (16, string 13), block length 13, 12."
 unfoldable pub block_call : List ℕ → ℕ → ℕ → List ℕ → List ℕ → Result
@@ -54,4 +55,5 @@ acknowledged m (Acknowledge i) taken = stepped overlay_encoder m [] (read_ack (e
 -- one acknowledgement from the front of the bytes s; it tells how many it took
 unfoldable pub acknowledge_call : List ℕ → List ℕ → Result
 acknowledge_call m s =
-    need (forms_encoder m) (refused m [] no_state) (on_instruction (refused m []) (read_for_encoder s) (acknowledged m))
+    need (forms_encoder m) (refused m [] no_state)
+    (on_read (λ (why : Refusal). refused m [] (number_of why)) (read_for_encoder s) (acknowledged m))

@@ -3,7 +3,7 @@ ghost use Rattle.std.specs.Prelude.{◌≡◌};
 ghost use Rattle.reply.specs.Reply.{answer_of};
 ghost use Rattle.encoder.specs.Calls.{start_call};
 
-use integers::answer::{NO_ROOM, OVER_LIMIT};
+use integers::answer::Refusal;
 use reply::Reply;
 use state::layout::{ENCODER, ENCODER_LENGTH, MOST_HELD};
 
@@ -12,10 +12,10 @@ pub fn start(m: &mut [u8], limit: u64) -> Reply
     ensures m_after { m.new ≡ (start_call m.old limit).memory }
 {
     if (MOST_HELD as u64) < limit {
-        return Reply::refused(OVER_LIMIT);
+        return Reply::because(Refusal::OverLimit);
     }
     if m.len() < ENCODER_LENGTH {
-        return Reply::refused(NO_ROOM);
+        return Reply::because(Refusal::NoRoom);
     }
     table::start::start(m, ENCODER, limit as u16);
     Reply::done(0, 0)

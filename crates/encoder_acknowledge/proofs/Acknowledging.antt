@@ -10,11 +10,10 @@ use lib.Dec.{eqb}
 use borrow.Author.Tests.{eq-eqb}
 use Rattle.memory.specs.Bytes.{Small}
 use Rattle.memory.proofs.Order.{need-true, need-false}
-use Rattle.integers.specs.Answers.{done, no_state, not_under_deletion}
-use Rattle.instructions.specs.Reading.{read_for_encoder, on_instruction}
+use Rattle.integers.specs.Answers.{done, no_state, not_under_deletion, number_of, on_read}
+use Rattle.integers.specs.declared.answer.Refusal.{Refusal}
+use Rattle.instructions.specs.Reading.{read_for_encoder}
 use Rattle.instructions.specs.declared.read.InstructionPlace.{InstructionPlace}
-use Rattle.instructions.specs.declared.read.InstructionRead.{InstructionRead}
-use Rattle.instructions.specs.declared.read.InstructionRead.TheVariants.{Found, Refused}
 use Rattle.model.specs.Table.{look, cut}
 use Rattle.model.specs.Outcome.{Outcome, nothing, refuse, finish, output_bytes}
 use Rattle.model.specs.Encoder.{Sent, sent_index, Encoder, with_sent, acknowledge_found, read_ack}
@@ -24,10 +23,12 @@ use Rattle.state.specs.Forms.{forms_encoder}
 use Rattle.table.specs.Changes.{removed}
 use Rattle.horizons.specs.Horizons.{horizons_closed}
 use Rattle.table_laws.specs.DecoderChanges.{found, missing}
-use Rattle.reply.specs.Result.{refused, stepped}
+use Rattle.reply.specs.Result.{Result, refused, stepped}
 use Rattle.encoder.specs.Calls.{acknowledged, acknowledge_call}
 use Rattle.encoder.specs.Steps.{freed}
 use Rattle.encoder.proofs.Standing.{changes, stays, row-found}
+use Rattle.std.specs.Prelude.{Ok, Err}
+use Rattle.integers.specs.Answers.{Read}
 
 -- ---- reading
 module _ (m s : List ℕ) where
@@ -36,15 +37,19 @@ module _ (m s : List ℕ) where
   acknowledge-no-state e = need-false _ _ _ e
 
   module _ (forms : forms_encoder m ≡ true) where
-    reads : (r : InstructionRead) → read_for_encoder s ≡ r → acknowledge_call m s ≡ on_instruction (refused m []) r (acknowledged m)
+    -- a refusal of the reader's, passed on
+    abbrev stop : Refusal → Result
+    stop why = refused m [] (number_of why)
+
+    reads : (r : Read InstructionPlace) → read_for_encoder s ≡ r → acknowledge_call m s ≡ on_read stop r (acknowledged m)
     unfolding acknowledge_call
-    reads r e = need-true _ _ _ forms ∙ ap (λ (r : InstructionRead). on_instruction (refused m []) r (acknowledged m)) e
+    reads r e = need-true _ _ _ forms ∙ ap (λ (r : Read InstructionPlace). on_read stop r (acknowledged m)) e
 
-    pub acknowledge-refused : (number : ℕ) → read_for_encoder s ≡ Refused number → acknowledge_call m s ≡ refused m [] number
-    acknowledge-refused number e = reads (Refused number) e
+    pub acknowledge-refused : (why : Refusal) → read_for_encoder s ≡ Err why → acknowledge_call m s ≡ refused m [] (number_of why)
+    acknowledge-refused why e = reads (Err why) e
 
-    pub acknowledge-found : (p : InstructionPlace) (taken : ℕ) → read_for_encoder s ≡ Found p taken → acknowledge_call m s ≡ acknowledged m p taken
-    acknowledge-found p taken e = reads (Found p taken) e
+    pub acknowledge-found : (p : InstructionPlace) (taken : ℕ) → read_for_encoder s ≡ Ok (p, taken) → acknowledge_call m s ≡ acknowledged m p taken
+    acknowledge-found p taken e = reads (Ok (p, taken)) e
 
 -- ---- freeing
 module _ (E : Encoder) (i taken : ℕ) where

@@ -9,15 +9,15 @@ ghost use Rattle.encoder.specs.Calls.{acknowledge_call};
 ghost use Rattle.encoder.specs.Steps.{freed};
 
 use horizons::references::close_horizons;
-use instructions::read::{InstructionPlace, InstructionRead, read_for_encoder};
-use integers::answer::{NO_STATE, NOT_ALLOWED, NOT_UNDER_DELETION};
+use instructions::read::{InstructionPlace, read_for_encoder};
+use integers::answer::Refusal;
 use integers::number::TableIndex;
 use reply::Reply;
 use state::head::count_of;
 use state::row::status_at;
 use state_test::encoder::forms_encoder;
 use table::remove::remove;
-use table_search::find::{Found, find};
+use table_search::find::find;
 
 // Takes the entry in row `place` out, with its horizons.
 fn take_out(m: &mut [u8], place: usize)
@@ -36,11 +36,11 @@ fn free(m: &mut [u8], index: TableIndex, taken: u32) -> Reply
     ensures m_after { m.new ≡ (freed m.old index.value taken).memory }
 {
     let f = find(m, index);
-    let Found::At(place) = f else {
-        return Reply::refused(NOT_UNDER_DELETION);
+    let Ok(place) = f else {
+        return Reply::because(Refusal::NotUnderDeletion);
     };
     if status_at(m, place) == 0 {
-        return Reply::refused(NOT_UNDER_DELETION);
+        return Reply::because(Refusal::NotUnderDeletion);
     }
     take_out(m, place);
     Reply::done(taken, 0)
@@ -51,15 +51,15 @@ pub fn acknowledge(m: &mut [u8], s: &[u8]) -> Reply
     ensures m_after { m.new ≡ (acknowledge_call m.old s.now).memory }
 {
     if !forms_encoder(m) {
-        return Reply::refused(NO_STATE);
+        return Reply::because(Refusal::NoState);
     }
     let r = read_for_encoder(s);
-    let InstructionRead::Found(instruction, taken) = r else {
-        return Reply::refused(r.number());
+    let Ok((instruction, taken)) = r else {
+        return Reply::because(r.unwrap_err());
     };
     match instruction {
-        InstructionPlace::Insert(_, _, _) => Reply::refused(NOT_ALLOWED),
-        InstructionPlace::Delete(_, _, _) => Reply::refused(NOT_ALLOWED),
+        InstructionPlace::Insert(_, _, _) => Reply::because(Refusal::NotAllowed),
+        InstructionPlace::Delete(_, _, _) => Reply::because(Refusal::NotAllowed),
         InstructionPlace::Acknowledge(index) => free(m, index, taken as u32),
     }
 }

@@ -1,7 +1,7 @@
 -- The block call's equations, one for each way through it. By the tests along that way; a refusal leaves memory and output, as a state that memory forms is
 -- over it already.
 use Prim.Native.Nat.{ℕ, ◌≤◌, ◌<◌}
-use mathlib.Core.Path.{◌≡◌, refl, sym, ap, ◌∙◌}
+use mathlib.Core.Path.{◌≡◌, refl, sym, ap, subst, ◌∙◌}
 use native.Mathlib.Omega.{arith}
 use mathlib.Core.Bool.{true, false}
 use mathlib.Core.Option.{Option, some}
@@ -11,10 +11,13 @@ use lib.ListN.{length}
 use borrow.Author.Tests.{lt-ltb, le-leb, lt-leb}
 use Rattle.memory.specs.Bytes.{Small, overlay}
 use Rattle.memory.proofs.Order.{need-true, need-false}
-use Rattle.integers.specs.Answers.{Answer, done, refusal}
+use Rattle.integers.specs.Answers.{Answer, done, refusal, number_of}
+use Rattle.integers.specs.declared.answer.Refusal.{Refusal}
+use Rattle.std.specs.Prelude.{Ok, Err}
+use Rattle.std.specs.Prelude as answers
 use Rattle.integers.specs.declared.number.StreamNumber.{StreamNumber}
 use Rattle.fields.specs.Form.{Field}
-use Rattle.fields.specs.Reading.{FieldListRead, list, read_field_list, field_list_answer}
+use Rattle.fields.specs.Reading.{FieldListRead, list, read_field_list, list_checked}
 use Rattle.fields.specs.Reading as reading
 use Rattle.blocks.specs.Representation.{Representation, block_wire}
 use Rattle.model.specs.Parts.{Part, nontrailer, trailer, part_of, part_number, Marks, in_turn, streams}
@@ -31,7 +34,7 @@ use Rattle.parts.specs.declared.turn.Part.{Part as PartCase}
 use Rattle.parts.proofs.Given.{in-turn, Given}
 use Rattle.reply.specs.Result.{Result, refused, stepped}
 use Rattle.encoder.specs.Calls.{on_list, block_call}
-use Rattle.encoder_fields.specs.Measure.{fields_in, representations_of, room_answer}
+use Rattle.encoder_fields.specs.Measure.{fields_in, representations_of, room_answer, ReadsWell}
 use Rattle.encoder_fields.specs.Refer.{entered}
 use Rattle.encoder_fields.proofs.Fields.{capped-low}
 use Rattle.encoder_fields.proofs.Bound.{room-ways}
@@ -73,10 +76,25 @@ named-turn {marks} {stream} {n} {s} {c} g =
 
 -- ---- a field list
 
--- a number that is told and not 0 is that of a refusal
-pub list-refused : (r : FieldListRead) → ((field_list_answer r).number ≡ 0 → ⊥) → r ≡ reading.FieldListRead.refused (field_list_answer r).number
-list-refused (list fs) n = absurd (n refl)
-list-refused (reading.FieldListRead.refused number) n = refl
+abbrev pub Answered : Type 0
+Answered = answers.Result (Unit {0}) Refusal
+
+-- an answer that refuses nothing
+pub done-answer : (r : Answered) → ((why : Refusal) → r ≡ Err why → ⊥) → r ≡ Ok tt
+done-answer (Ok tt) n = refl
+done-answer (Err why) n = absurd (n why refl)
+
+-- what the check answers of a list that reads well, and of one that is refused
+list_checked-Ok : (r : FieldListRead) → Ok tt ≡ list_checked r → (fs : List Field) × (r ≡ list fs)
+list_checked-Ok (list fs) e = (fs, refl)
+list_checked-Ok (reading.FieldListRead.refused why) e = let z : ◌≡◌ {A = ℕ} 0 1 = cc in absurd (omega arith)
+
+pub list-read : (s : List ℕ) (r : Answered) → r ≡ list_checked (read_field_list s) → r ≡ Ok tt → (fs : List Field) × (read_field_list s ≡ list fs)
+list-read s r e d = list_checked-Ok (read_field_list s) (sym d ∙ e)
+
+pub list-refused : (r : FieldListRead) (why : Refusal) → Err why ≡ list_checked r → r ≡ reading.FieldListRead.refused why
+list-refused (list fs) why e = let z : ◌≡◌ {A = ℕ} 0 1 = cc in absurd (omega arith)
+list-refused (reading.FieldListRead.refused why) x e = cc
 
 -- ---- the call
 
@@ -100,8 +118,8 @@ module _ (m : List ℕ) (stream part : ℕ) (s out : List ℕ) where
       unfolding block_call
       after_turn = need-true (forms_encoder m) _ _ forms ∙ need-true (part_turn (encoder_of m).written stream (part_of part)) _ _ turn
 
-      pub not-a-list : (number : ℕ) → read_field_list s ≡ reading.FieldListRead.refused number → block_call m stream part s out ≡ refused m out number
-      not-a-list number e =
+      pub not-a-list : (why : Refusal) → read_field_list s ≡ reading.FieldListRead.refused why → block_call m stream part s out ≡ refused m out (number_of why)
+      not-a-list why e =
           after_turn
           ∙ ap (λ (r : FieldListRead). on_list (refused m out) r (λ fs. stepped overlay_encoder m out (encode_block (encoder_of m) stream part fs (length out)))) e
 
@@ -118,6 +136,11 @@ pub record Ready (m : List ℕ) (stream : ℕ) (part : Part) (s : List ℕ) : Ty
   pub turn : part_turn (encoder_of m).written stream (some part) ≡ true
   pub fields : List Field
   pub read : read_field_list s ≡ list fields
+
+-- as a function's clauses have it
+pub ready-by : {m : List ℕ} {stream : ℕ} {part : Part} {s : List ℕ} → Small m
+    → (forms_encoder m ≡ true) × (part_turn (encoder_of m).written stream (some part) ≡ true) → ReadsWell s → Ready m stream part s
+ready-by small p r = record { small = small; forms = p.0; turn = p.1; fields = r.0; read = r.1 }
 
 module _ {m : List ℕ} {stream : ℕ} {part : Part} {s : List ℕ} (R : Ready m stream part s) where
   abbrev E : Encoder
@@ -170,21 +193,12 @@ module _ {m : List ℕ} {stream : ℕ} {part : Part} {s : List ℕ} (R : Ready m
         refuses 12 (need-true (leb size 16384) _ _ (le-leb size 16384 short) ∙ need-false (leb size (length out)) _ _ (lt-leb size (length out) h))
 
     -- by the room's answer: it refuses, or there is room
-    pub not-fitting : (number : ℕ) → number ≡ room_answer size (length out) → (number ≡ 0 → ⊥) → block_call m stream (part_number part) s out ≡ refused m out number
-    not-fitting number e n =
-        room-ways size (length out) (λ (k : ℕ). number ≡ k → block_call m stream (part_number part) s out ≡ refused m out number)
-        (λ short room d. absurd (n d))
-        (λ long d. too_long long ∙ ap (refused m out) (sym d))
-        (λ short lacks d. no_room short lacks ∙ ap (refused m out) (sym d))
-        e
+    abbrev pub Fits : Answered → Type 0
+    Fits (Ok done) = (size ≤ 16384) × (size ≤ length out)
+    Fits (Err why) = block_call m stream (part_number part) s out ≡ refused m out (number_of why)
 
-    pub fitting : (number : ℕ) → number ≡ room_answer size (length out) → number ≡ 0 → (size ≤ 16384) × (size ≤ length out)
-    fitting number e z =
-        room-ways size (length out) (λ (k : ℕ). number ≡ k → (size ≤ 16384) × (size ≤ length out))
-        (λ short room d. (short, room))
-        (λ long d. absurd (omega arith))
-        (λ short lacks d. absurd (omega arith))
-        e
+    pub fitting : (r : Answered) → r ≡ room_answer size (length out) → Fits r
+    fitting r e = subst Fits (sym e) (room-ways size (length out) Fits (λ short room. (short, room)) too_long no_room)
 
     given : size ≤ 16384 → size ≤ length out → block_call m stream (part_number part) s out ≡ record {
       answer = done size 0;

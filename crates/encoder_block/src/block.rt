@@ -10,10 +10,10 @@ ghost use Rattle.encoder_fields.specs.Measure.{ReadsWell};
 
 use encoder_passes::write::{room_answer, write_list};
 use fields::read::check_list;
-use integers::answer::{NO_STATE, OUT_OF_TURN};
+use integers::answer::Refusal;
 use integers::number::StreamNumber;
 use parts::close::close_after;
-use parts::turn::{Part, Turn, turn_of};
+use parts::turn::{Part, turn_of};
 use reply::Reply;
 use state_test::encoder::forms_encoder;
 
@@ -25,30 +25,29 @@ fn give(m: &mut [u8], stream: StreamNumber, part: Part, s: &[u8], out: &mut [u8]
     ensures m_after { m.new ≡ (block_call m.old stream.value (case_number part) s.now out.old).memory }
     ensures out_after { out.new ≡ (block_call m.old stream.value (case_number part) s.now out.old).output }
 {
-    let answer = room_answer(m, stream, part, s, out);
-    if answer != 0 {
-        return Reply::refused(answer);
+    if let Err(why) = room_answer(m, stream, part, s, out) {
+        return Reply::because(why);
     }
     let n = write_list(m, stream, part, s, out, true);
     close_after(m, stream, part);
     Reply::done(n as u32, 0)
 }
 
+// The decoder's block call has the same arguments and other steps.
 pub fn block(m: &mut [u8], stream: u64, part: u64, s: &[u8], out: &mut [u8]) -> Reply
     ensures result_value { answer_of result ≡ (block_call m.old stream part s.now out.old).answer }
     ensures m_after { m.new ≡ (block_call m.old stream part s.now out.old).memory }
     ensures out_after { out.new ≡ (block_call m.old stream part s.now out.old).output }
 {
     if !forms_encoder(m) {
-        return Reply::refused(NO_STATE);
+        return Reply::because(Refusal::NoState);
     }
     let turn = turn_of(m, stream, part);
-    let Turn::Of(number, kind) = turn else {
-        return Reply::refused(OUT_OF_TURN);
+    let Some((number, kind)) = turn else {
+        return Reply::because(Refusal::OutOfTurn);
     };
-    let checked = check_list(s);
-    if checked != 0 {
-        return Reply::refused(checked);
+    if let Err(why) = check_list(s) {
+        return Reply::because(why);
     }
     give(m, number, kind, s, out)
 }

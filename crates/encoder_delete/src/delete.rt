@@ -8,7 +8,7 @@ ghost use Rattle.encoder.specs.Calls.{delete_call};
 ghost use Rattle.encoder.specs.Steps.{found_delete};
 
 use instruction_writing::write::write_delete;
-use integers::answer::{NO_ROOM, NO_STATE, NOT_ALLOWED, UNDER_DELETION, VACANT};
+use integers::answer::Refusal;
 use integers::number::TableIndex;
 use reply::Reply;
 use sizes::delete_size;
@@ -16,12 +16,12 @@ use state::kept::horizon_at;
 use state::reference::{nontrailer_place, trailer_place};
 use state::row::{DELETED, put_status, status_at};
 use state_test::encoder::forms_encoder;
-use table_search::find::{Found, find};
+use table_search::find::find;
 
 // An entry that is not under deletion: 12, or its delete.
 fn delete_found(m: &mut [u8], index: TableIndex, place: usize, out: &mut [u8]) -> Reply
     requires m_value { forms_encoder m.old ≡ true }
-    requires m_value_2 { (find_from m.old index.value (count_of m.old) 0 ≡ Found.At place) × (status_at m.old place ≡ 0) }
+    requires m_value_2 { (find_from m.old index.value (count_of m.old) 0 ≡ Ok place) × (status_at m.old place ≡ 0) }
     ensures result_value { answer_of result ≡ (found_delete m.old place out.old).answer }
     ensures m_after { m.new ≡ (found_delete m.old place out.old).memory }
     ensures out_after { out.new ≡ (found_delete m.old place out.old).output }
@@ -30,7 +30,7 @@ fn delete_found(m: &mut [u8], index: TableIndex, place: usize, out: &mut [u8]) -
     let trailer = horizon_at(m, trailer_place(place)) as u32;
     let n = delete_size(index, nontrailer, trailer);
     if out.len() < n {
-        return Reply::refused(NO_ROOM);
+        return Reply::because(Refusal::NoRoom);
     }
     let none = [0u16; 1];
     let empty = &none[..0];
@@ -45,21 +45,21 @@ pub fn delete(m: &mut [u8], index: u64, out: &mut [u8]) -> Reply
     ensures out_after { out.new ≡ (delete_call m.old index out.old).output }
 {
     if !forms_encoder(m) {
-        return Reply::refused(NO_STATE);
+        return Reply::because(Refusal::NoState);
     }
     if index < (TableIndex::FIRST as u64) {
-        return Reply::refused(NOT_ALLOWED);
+        return Reply::because(Refusal::NotAllowed);
     }
     if (TableIndex::LAST as u64) < index {
-        return Reply::refused(NOT_ALLOWED);
+        return Reply::because(Refusal::NotAllowed);
     }
     let i = TableIndex::new(index as u32);
     let f = find(m, i);
-    let Found::At(place) = f else {
-        return Reply::refused(VACANT);
+    let Ok(place) = f else {
+        return Reply::because(Refusal::Vacant);
     };
     if status_at(m, place) != 0 {
-        return Reply::refused(UNDER_DELETION);
+        return Reply::because(Refusal::UnderDeletion);
     }
     delete_found(m, i, place, out)
 }

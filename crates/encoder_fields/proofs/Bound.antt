@@ -14,8 +14,6 @@ use Rattle.memory.proofs.Order.{split, need-true, need-false}
 use Rattle.fields.specs.Form.{Field, AllFine, field_form, list_form}
 use Rattle.fields.specs.Reading.{FieldListRead, list, read_field, fields_from, read_field_list}
 use Rattle.fields.specs.declared.read.FieldPlace.{FieldPlace}
-use Rattle.fields.specs.declared.read.FieldRead.{FieldRead}
-use Rattle.fields.specs.declared.read.FieldRead.TheVariants.{Found, Refused}
 use Rattle.fields.proofs.Inverse.{field-inverse}
 use Rattle.fields.proofs.Bounds.{text-bounds}
 use Rattle.fields.proofs.Walk.{walk-done, walk_refused, walk_more}
@@ -29,6 +27,10 @@ use Rattle.state_laws.proofs.EncoderLaws.{encoder-laws}
 use Rattle.encoder_fields.specs.Measure.{fields_in, representations_of, room_answer}
 use Rattle.encoder_fields.proofs.Fields.{length_more}
 use Rattle.encoder_fields.proofs.Within.{LowTable, forms-low, choice-within}
+use Rattle.std.specs.Prelude.{Result, Ok, Err}
+use Rattle.integers.specs.Answers.{Read}
+use Rattle.integers.specs.declared.answer.Refusal.{Refusal}
+use Rattle.integers.specs.declared.answer.Refusal.TheVariants.{TooLong, NoRoom}
 
 -- ---- the block
 
@@ -53,7 +55,7 @@ block_within l low (f ∷ fs) fine =
 -- ---- three bytes for a field: its flag, and a length for each of its two strings
 
 module _ (s : List ℕ) where
-  field-three : (at : ℕ) (p : FieldPlace) (next : ℕ) → read_field s at ≡ Found p next → (at + 3 ≤ next) × (next ≤ length s)
+  field-three : (at : ℕ) (p : FieldPlace) (next : ℕ) → read_field s at ≡ Ok (p, next) → (at + 3 ≤ next) × (next ≤ length s)
   field-three at p next e =
       let i = field-inverse s at p next e in
       let n = text-bounds s (at + 1) 255 p.name i.middle i.name-read in
@@ -63,9 +65,9 @@ module _ (s : List ℕ) where
   -- the fields from a place on
   step-three : (f at : ℕ) (rest : List Field) → at < length s → length s ≤ at + suc f → fields_from (suc f) s at [] ≡ list rest
       → ((at : ℕ) (rest : List Field) → at ≤ length s → length s ≤ at + f → fields_from f s at [] ≡ list rest → at + 3 * length rest ≤ length s)
-      → (r : FieldRead) → r ≡ read_field s at → at + 3 * length rest ≤ length s
-  step-three f at rest h k e later (Refused number) d = absurd (walk_refused s (suc f) at rest e h k _ d number refl)
-  step-three f at rest h k e later (Found p next) d =
+      → (r : Read FieldPlace) → r ≡ read_field s at → at + 3 * length rest ≤ length s
+  step-three f at rest h k e later (Err why) d = absurd (walk_refused s (suc f) at rest e h k _ d why refl)
+  step-three f at rest h k e later (Ok (p, next)) d =
       let w = walk_more s (suc f) at rest e h k _ d p next refl in
       let b = field-three at p next (sym d) in
       omega (arith, ap length w.1, b.0, later next w.0 b.1 (omega (arith, b.0)) (rw sub-one at w.2))
@@ -103,20 +105,21 @@ list-within m s small forms bytes fs e =
 -- ---- the room's answer
 
 module _ (n room : ℕ) where
-  pub room-enough : n ≤ 16384 → n ≤ room → 0 ≡ room_answer n room
+  pub room-enough : n ≤ 16384 → n ≤ room → Ok tt ≡ room_answer n room
   unfolding room_answer
   room-enough short h = sym (need-true (leb n 16384) _ _ (le-leb n 16384 short) ∙ need-true (leb n room) _ _ (le-leb n room h))
 
-  pub room-long : 16384 < n → 13 ≡ room_answer n room
+  pub room-long : 16384 < n → Err TooLong ≡ room_answer n room
   unfolding room_answer
   room-long h = sym (need-false (leb n 16384) _ _ (lt-leb n 16384 h))
 
-  pub room-none : n ≤ 16384 → room < n → 12 ≡ room_answer n room
+  pub room-none : n ≤ 16384 → room < n → Err NoRoom ≡ room_answer n room
   unfolding room_answer
   room-none short h = sym (need-true (leb n 16384) _ _ (le-leb n 16384 short) ∙ need-false (leb n room) _ _ (lt-leb n room h))
 
   -- and what it says
-  pub room-ways : (P : ℕ → Type 0) → (n ≤ 16384 → n ≤ room → P 0) → (16384 < n → P 13) → (n ≤ 16384 → room < n → P 12) → P (room_answer n room)
+  pub room-ways : (P : Result (Unit {0}) Refusal → Type 0) → (n ≤ 16384 → n ≤ room → P (Ok tt)) → (16384 < n → P (Err TooLong))
+      → (n ≤ 16384 → room < n → P (Err NoRoom)) → P (room_answer n room)
   room-ways P enough long lacks =
       split 16384 n (λ h. subst P (room-long h) (long h))
       (λ h. split room n (λ k. subst P (room-none h k) (lacks h k)) (λ k. subst P (room-enough h k) (enough h k)))

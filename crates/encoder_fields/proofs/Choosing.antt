@@ -11,8 +11,6 @@ use Rattle.memory.specs.Bytes.{Small}
 use Rattle.memory.proofs.Order.{split}
 use Rattle.wire.specs.Name.{indexed as indexed_name, literal as by_bytes}
 use Rattle.static_search.specs.Search.{find_name, find_both}
-use Rattle.static_search.specs.declared.search.StaticFound.{StaticFound}
-use Rattle.static_search.specs.declared.search.StaticFound.TheVariants.{At, Nothing as NotStatic}
 use Rattle.integers.specs.declared.number.TableIndex.{TableIndex}
 use Rattle.fields.specs.Form.{Field}
 use Rattle.blocks.specs.Representation.{indexed, literal}
@@ -27,58 +25,57 @@ use Rattle.state.specs.Forms.{head_ok, rows_ok, forms_encoder}
 use Rattle.state_laws.proofs.RowsTest.{GoodRows, rows-each}
 use Rattle.table_search.specs.Search.{Ordered}
 use Rattle.name_search.specs.Names.{serves_at, serves_both_at, lowest_row}
-use Rattle.name_search.specs.declared.names.Sought.TheVariants.{Row, Nothing}
 use Rattle.table_laws.specs.EncoderChanges.{EncoderChanges}
 use Rattle.table_laws.proofs.EncoderClaim.{encoder-claim}
 use Rattle.encoder_fields.specs.Naming.{chosen_name, static_first, literal_with}
 use Rattle.encoder_fields.specs.Measure.{chosen, field_with, Chooses}
-use Rattle.encoder_fields.specs.declared.name.NameChoice.{NameChoice}
-use Rattle.encoder_fields.specs.declared.name.NameChoice.TheVariants.{Index, Bytes}
 use Rattle.encoder_fields.specs.declared.choice.Choice.{Choice}
+use Rattle.std.specs.Prelude.{Some, None}
+use Rattle.std.specs.Prelude as prelude
 
 -- ---- a name
 
 module _ (l : List Sent) (name : List ℕ) where
-  pub name-static : (j : TableIndex) → find_name name ≡ At j → indexed_name j.value ≡ choose_name l name
+  pub name-static : (j : TableIndex) → find_name name ≡ Some j → indexed_name j.value ≡ choose_name l name
   unfolding choose_name static_name
   name-static j e = sym (ap (static_name l name) e)
 
   -- the static entry, else what the header table has
-  pub name-first : (o : StaticFound) → find_name name ≡ o → (dynamic : NameChoice)
+  pub name-first : (o : prelude.Option TableIndex) → find_name name ≡ o → (dynamic : prelude.Option TableIndex)
       → chosen_name name dynamic ≡ dynamic_name name (first (serves name) l) → chosen_name name (static_first o dynamic) ≡ choose_name l name
   unfolding choose_name static_name
-  name-first (At j) e dynamic d = name-static j e
-  name-first NotStatic e dynamic d = d ∙ sym (ap (static_name l name) e)
+  name-first (Some j) e dynamic d = name-static j e
+  name-first None e dynamic d = d ∙ sym (ap (static_name l name) e)
 
 -- ---- a field's representation
 
-literal-with : (f : Field) (c : NameChoice) → chosen f (literal_with c) ≡ literal f.flag (chosen_name f.name c) f.value
-literal-with f (Index i) = refl
-literal-with f Bytes = refl
+literal-with : (f : Field) (c : prelude.Option TableIndex) → chosen f (literal_with c) ≡ literal f.flag (chosen_name f.name c) f.value
+literal-with f (Some i) = refl
+literal-with f None = refl
 
 module _ (l : List Sent) (f : Field) where
   -- a literal with the flag, and with the name that is chosen
-  named-literal : (flag : ℕ) → f.flag ≡ flag → (c : NameChoice) → chosen_name f.name c ≡ choose_name l f.name
+  named-literal : (flag : ℕ) → f.flag ≡ flag → (c : prelude.Option TableIndex) → chosen_name f.name c ≡ choose_name l f.name
       → chosen f (literal_with c) ≡ literal flag (choose_name l f.name) f.value
   named-literal flag e c d = literal-with f c ∙ (λ k. literal (e k) (d k) f.value)
 
-  pub choose-literal : f.flag ≡ 1 → (c : NameChoice) → chosen_name f.name c ≡ choose_name l f.name → chosen f (literal_with c) ≡ choose l f
+  pub choose-literal : f.flag ≡ 1 → (c : prelude.Option TableIndex) → chosen_name f.name c ≡ choose_name l f.name → chosen f (literal_with c) ≡ choose l f
   unfolding choose
   choose-literal e c d = named-literal 1 e c d ∙ sym (pick_yes f.flag 1 _ _ e)
 
   module _ (n : f.flag ≡ 1 → ⊥) where
-    static-field : (o : StaticFound) → find_both f.name f.value ≡ o → choose l f ≡ static_field l f o
+    static-field : (o : prelude.Option TableIndex) → find_both f.name f.value ≡ o → choose l f ≡ static_field l f o
     unfolding choose
     static-field o e = pick_no f.flag 1 _ _ n ∙ ap (static_field l f) e
 
-    pub choose-static : (j : TableIndex) → find_both f.name f.value ≡ At j → indexed j.value ≡ choose l f
+    pub choose-static : (j : TableIndex) → find_both f.name f.value ≡ Some j → indexed j.value ≡ choose l f
     unfolding static_field
-    choose-static j e = sym (static-field (At j) e)
+    choose-static j e = sym (static-field (Some j) e)
 
-    dynamic-field : find_both f.name f.value ≡ NotStatic → (o : Option Sent) → first (serves_both f.name f.value) l ≡ o
+    dynamic-field : find_both f.name f.value ≡ None → (o : Option Sent) → first (serves_both f.name f.value) l ≡ o
         → choose l f ≡ dynamic_field l f o
     unfolding static_field
-    dynamic-field gone o e = static-field NotStatic gone ∙ ap (dynamic_field l f) e
+    dynamic-field gone o e = static-field None gone ∙ ap (dynamic_field l f) e
 
 -- ---- with the searches of memory
 
@@ -108,24 +105,24 @@ module _ (m : List ℕ) (small : Small m) (forms : forms_encoder m ≡ true) whe
       )
 
   module _ (name : List ℕ) where
-    pub serving-row : (place : ℕ) → lowest_row (serves_at m name) (count_of m) 0 ≡ Row place → place < count_of m
+    pub serving-row : (place : ℕ) → lowest_row (serves_at m name) (count_of m) 0 ≡ Some place → place < count_of m
     serving-row place e = (C.serving name place e).0
 
-    pub dynamic-row : (place : ℕ) → lowest_row (serves_at m name) (count_of m) 0 ≡ Row place → (i : TableIndex) → i ≡ record { value = index_at m place }
+    pub dynamic-row : (place : ℕ) → lowest_row (serves_at m name) (count_of m) 0 ≡ Some place → (i : TableIndex) → i ≡ record { value = index_at m place }
         → indexed_name i.value ≡ dynamic_name name (first (serves name) (encoder_of m).entries)
     unfolding dynamic_name sent_at
     dynamic-row place e i d = ap (λ (i : TableIndex). indexed_name i.value) d ∙ sym (ap (dynamic_name name) (C.serving name place e).1)
 
-    pub dynamic-none : lowest_row (serves_at m name) (count_of m) 0 ≡ Nothing
+    pub dynamic-none : lowest_row (serves_at m name) (count_of m) 0 ≡ None
         → by_bytes name ≡ dynamic_name name (first (serves name) (encoder_of m).entries)
     unfolding dynamic_name
     dynamic-none e = sym (ap (dynamic_name name) (C.unserved name e))
 
-  pub both-row : (name value : List ℕ) (place : ℕ) → lowest_row (serves_both_at m name value) (count_of m) 0 ≡ Row place → place < count_of m
+  pub both-row : (name value : List ℕ) (place : ℕ) → lowest_row (serves_both_at m name value) (count_of m) 0 ≡ Some place → place < count_of m
   both-row name value place e = (C.serving_both name value place e).0
 
-  module _ (f : Field) (n : f.flag ≡ 1 → ⊥) (gone : find_both f.name f.value ≡ NotStatic) where
-    pub choose-row : (place : ℕ) → lowest_row (serves_both_at m f.name f.value) (count_of m) 0 ≡ Row place
+  module _ (f : Field) (n : f.flag ≡ 1 → ⊥) (gone : find_both f.name f.value ≡ None) where
+    pub choose-row : (place : ℕ) → lowest_row (serves_both_at m f.name f.value) (count_of m) 0 ≡ Some place
         → (i : TableIndex) → i ≡ record { value = index_at m place } → indexed i.value ≡ choose (encoder_of m).entries f
     unfolding dynamic_field sent_at
     choose-row place e i d =
@@ -133,7 +130,7 @@ module _ (m : List ℕ) (small : Small m) (forms : forms_encoder m ≡ true) whe
         ∙ sym (dynamic-field (encoder_of m).entries f n gone _ (C.serving_both f.name f.value place e).1)
 
     -- no row has both: a literal, its name by the static table, else by what the header table has
-    pub choose-else : lowest_row (serves_both_at m f.name f.value) (count_of m) 0 ≡ Nothing → f.flag < 2 → (dynamic : NameChoice)
+    pub choose-else : lowest_row (serves_both_at m f.name f.value) (count_of m) 0 ≡ None → f.flag < 2 → (dynamic : prelude.Option TableIndex)
         → chosen_name f.name dynamic ≡ dynamic_name f.name (first (serves f.name) (encoder_of m).entries)
         → (choice : Choice) → choice ≡ literal_with (static_first (find_name f.name) dynamic) → Chooses m f choice
     unfolding dynamic_field

@@ -10,10 +10,8 @@ use mathlib.Core.List.{List, [], ◌∷◌, map, Memᴰ}
 use lib.Dec.{eqb, lit≤}
 use lib.ListN.{length}
 use Rattle.memory.proofs.Order.{pick-both}
-use Rattle.wire.specs.Name.{Name, indexed as indexed_name, literal as by_bytes}
+use Rattle.wire.specs.Name.{Name, FineName, indexed as indexed_name, literal as by_bytes}
 use Rattle.static_search.specs.Search.{find_name, find_both}
-use Rattle.static_search.specs.declared.search.StaticFound.{StaticFound}
-use Rattle.static_search.specs.declared.search.StaticFound.TheVariants.{At, Nothing}
 use Rattle.static_search.proofs.Finding.{name-found, both_found}
 use Rattle.fields.specs.Form.{Field, FineField, AllFine as AllFineFields}
 use Rattle.blocks.specs.Representation.{Representation, indexed, literal, FineRepresentation, AllFine}
@@ -23,6 +21,9 @@ use Rattle.model.specs.Decoder.{is_some}
 use Rattle.model.specs.Encoder.{Sent, sent_index, Encoder, serves, serves_both, dynamic_name, static_name, choose_name, dynamic_field, static_field, choose, FormsEncoder}
 use Rattle.model_laws.proofs.Tables.{first-sound}
 use Rattle.encoder_fields.specs.Refer.{AllHeld}
+use Rattle.std.specs.Prelude.{Some, None}
+use Rattle.integers.specs.declared.number.TableIndex.{TableIndex}
+use Rattle.std.specs.Prelude as prelude
 
 module _ (E : Encoder) (F : FormsEncoder E) where
   abbrev l : List Sent
@@ -57,12 +58,16 @@ module _ (E : Encoder) (F : FormsEncoder E) where
       dynamic none h = short
       dynamic (some e) h = entry_known (serves name) e h
 
-      go : (o : StaticFound) → find_name name ≡ o → NameKnown (static_name l name o)
-      go (At j) h = let w = name-found name 61 1 j h in static-known j.value (omega (arith, w.low)) (omega (arith, w.high))
-      go Nothing h = dynamic (first (serves name) l) refl
+      go : (o : prelude.Option TableIndex) → find_name name ≡ o → NameKnown (static_name l name o)
+      go (Some j) h = let w = name-found name 61 1 j h in static-known j.value (omega (arith, w.low)) (omega (arith, w.high))
+      go None h = dynamic (first (serves name) l) refl
 
-  pub index-known : (name : List ℕ) → length name ≤ 255 → (i : ℕ) → indexed_name i ≡ choose_name l name → (0 < i) × (i ≤ 189)
-  index-known name short i e = let known = subst NameKnown (sym e) (name-known name short) in (known.low, known.high)
+  known-fine-name : (n : Name) → NameKnown n → FineName n
+  known-fine-name (indexed_name i) k = (k.low, omega (arith, k.high))
+  known-fine-name (by_bytes name) k = k
+
+  pub name-fine : (name : List ℕ) → length name ≤ 255 → FineName (choose_name l name)
+  name-fine name short = known-fine-name (choose_name l name) (name-known name short)
 
   -- ---- representations
 
@@ -84,14 +89,13 @@ module _ (E : Encoder) (F : FormsEncoder E) where
       dynamic none h = as-literal 0 (lit≤ tt)
       dynamic (some e) h = entry_known (serves_both f.name f.value) e h
 
-      go : (o : StaticFound) → find_both f.name f.value ≡ o → AllKnown (static_field l f o)
-      go (At j) h = let w = both_found f.name f.value 61 1 j h in static-known j.value (omega (arith, w.low)) (omega (arith, w.high))
-      go Nothing h = dynamic (first (serves_both f.name f.value) l) refl
+      go : (o : prelude.Option TableIndex) → find_both f.name f.value ≡ o → AllKnown (static_field l f o)
+      go (Some j) h = let w = both_found f.name f.value 61 1 j h in static-known j.value (omega (arith, w.low)) (omega (arith, w.high))
+      go None h = dynamic (first (serves_both f.name f.value) l) refl
 
   known-fine : (r : Representation) → AllKnown r → FineRepresentation r
   known-fine (indexed i) k = (k.low, omega (arith, k.high))
-  known-fine (literal flag (indexed_name i) value) k = (k.0, (k.1.low, omega (arith, k.1.high)), k.2)
-  known-fine (literal flag (by_bytes name) value) k = k
+  known-fine (literal flag name value) k = (k.0, known-fine-name name k.1, k.2)
 
   known-held : (r : Representation) → AllKnown r → (i : ℕ) → Memᴰ i (references r) → 62 ≤ i → is_some (look sent_index i l) ≡ true
   known-held (indexed j) k i m h = let e = Memᴰ.eq_of_singleton m in subst (λ (n : ℕ). 62 ≤ n → is_some (look sent_index n l) ≡ true) (sym e) k.held h

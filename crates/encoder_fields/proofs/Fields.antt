@@ -11,14 +11,16 @@ use Rattle.memory.proofs.Places.{length_part}
 use Rattle.fields.specs.Form.{Field, FineField}
 use Rattle.fields.specs.Reading.{read_field, field_answer, field_of, fields_from, read_field_list, FieldListRead.list}
 use Rattle.fields.specs.declared.read.FieldPlace.{FieldPlace}
-use Rattle.fields.specs.declared.read.FieldRead.{FieldRead}
-use Rattle.fields.specs.declared.read.FieldRead.TheVariants.{Found, Refused}
+use Rattle.encoder_fields.specs.declared.field.ListField.{ListField}
 use Rattle.fields.proofs.Bounds.{FieldBounds, field-good}
 use Rattle.fields.proofs.Walk.{walk-done, walk_refused, walk_more}
 use Rattle.blocks.specs.Representation.{Representation, representation_wire, block_wire, FineRepresentation as Says}
 use Rattle.blocks.proofs.Writing.{block-wire-nil, block-wire-cons}
 use Rattle.model.specs.Encoder.{Sent, choose}
-use Rattle.encoder_fields.specs.Measure.{InField, capped}
+use Rattle.encoder_fields.specs.Measure.{InField, as_field, capped}
+use Rattle.std.specs.Prelude.{Ok, Err}
+use Rattle.integers.specs.Answers.{Read}
+use Rattle.integers.specs.declared.answer.Refusal.{Refusal}
 
 -- ---- what is left of a list
 
@@ -34,12 +36,12 @@ module _ (s : List ℕ) (at : ℕ) (rest : List Field) (L : Left s at rest) wher
   pub left-none : length s ≤ at → rest ≡ []
   left-none h = walk-done s L.turns at rest L.reads h
 
-  module _ (h : at < length s) (r : FieldRead) (e : r ≡ read_field s at) where
-    pub left-refused : (number : ℕ) → r ≡ Refused number → ⊥
-    left-refused number d = walk_refused s L.turns at rest L.reads h L.enough r e number d
+  module _ (h : at < length s) (r : Read FieldPlace) (e : r ≡ read_field s at) where
+    pub left-refused : (why : Refusal) → r ≡ Err why → ⊥
+    left-refused why d = walk_refused s L.turns at rest L.reads h L.enough r e why d
 
     -- one field more
-    pub left-more : (p : FieldPlace) (next : ℕ) → r ≡ Found p next → (fs : List Field) × (rest ≡ field_of s p ∷ fs) × Left s next fs
+    pub left-more : (p : FieldPlace) (next : ℕ) → r ≡ Ok (p, next) → (fs : List Field) × (rest ≡ field_of s p ∷ fs) × Left s next fs
     left-more p next d =
         let w = walk_more s L.turns at rest L.reads h L.enough r e p next d in
         let b = field-good s at r e p next d in
@@ -48,9 +50,9 @@ module _ (s : List ℕ) (at : ℕ) (rest : List Field) (L : Left s at rest) wher
   -- so one reads well there
   pub left-reads : at < length s → (field_answer (read_field s at)).number ≡ 0
   left-reads h = go (read_field s at) refl where
-    go : (r : FieldRead) → r ≡ read_field s at → (field_answer r).number ≡ 0
-    go (Found p next) e = refl
-    go (Refused number) e = absurd (left-refused h (Refused number) e number refl)
+    go : (r : Read FieldPlace) → r ≡ read_field s at → (field_answer r).number ≡ 0
+    go (Ok (p, next)) e = refl
+    go (Err why) e = absurd (left-refused h (Err why) e why refl)
 
 -- ---- a field that was read
 
@@ -69,6 +71,10 @@ field-fine s p i = record {
   name_short = omega (arith, length_part s p.name.start p.name.length i.name, i.name_short);
   value_short = omega (arith, length_part s p.value.start p.value.length i.value, i.value_short);
 }
+
+-- one of a list keeps the limits
+pub listed-fine : (f : ListField) → FineField (as_field f)
+listed-fine f = record { flag_bit = f.bit; name_short = f.name_short; value_short = f.value_short }
 
 -- ---- bytes
 

@@ -15,8 +15,6 @@ use Rattle.wire.specs.Text.{string_wire}
 use Rattle.wire.specs.Name.{indexed as indexed_name, literal as by_bytes}
 use Rattle.wire.proofs.TextWriting.{string-within, index-wire, literal-length-wire}
 use Rattle.static_search.specs.Search.{find_name, find_both}
-use Rattle.static_search.specs.declared.search.StaticFound.{StaticFound}
-use Rattle.static_search.specs.declared.search.StaticFound.TheVariants.{At, Nothing}
 use Rattle.static_search.proofs.Finding.{name-found, both_found}
 use Rattle.fields.specs.Form.{Field, FineField, text_form, text_size, field_form}
 use Rattle.fields.proofs.Sizes.{text_form-length, field_form-split}
@@ -27,6 +25,9 @@ use Rattle.model.specs.Encoder.{Sent, sent_index, serves, serves_both, dynamic_n
 use Rattle.model.specs.Encoder.{Encoder, FormsEncoder}
 use Rattle.model_laws.proofs.Tables.{nope}
 use Rattle.state_laws.proofs.Each.{Each, found-each}
+use Rattle.std.specs.Prelude.{Some, None}
+use Rattle.integers.specs.declared.number.TableIndex.{TableIndex}
+use Rattle.std.specs.Prelude as prelude
 
 -- ---- the table
 
@@ -123,9 +124,9 @@ module _ (f : Field) (fine : FineField f) where
         dynamic none q = text-within flag
         dynamic (some e) q = named-within flag e.index (found-low (serves f.name) l low e q)
 
-        go : (o : StaticFound) → find_name f.name ≡ o → Within (literal flag (static_name l f.name o) f.value)
-        go (At j) q = named-within flag j.value (omega (arith, (name-found f.name 61 1 j q).high))
-        go Nothing q = dynamic (first (serves f.name) l) refl
+        go : (o : prelude.Option TableIndex) → find_name f.name ≡ o → Within (literal flag (static_name l f.name o) f.value)
+        go (Some j) q = named-within flag j.value (omega (arith, (name-found f.name 61 1 j q).high))
+        go None q = dynamic (first (serves f.name) l) refl
 
     pub choice-within : Within (choose l f)
     unfolding choose static_field dynamic_field
@@ -138,6 +139,6 @@ module _ (f : Field) (fine : FineField f) where
         dynamic none q = literal-within 0
         dynamic (some e) q = indexed-within e.index (found-low (serves_both f.name f.value) l low e q)
 
-        go : (o : StaticFound) → find_both f.name f.value ≡ o → Within (static_field l f o)
-        go (At j) q = indexed-within j.value (omega (arith, (both_found f.name f.value 61 1 j q).high))
-        go Nothing q = dynamic (first (serves_both f.name f.value) l) refl
+        go : (o : prelude.Option TableIndex) → find_both f.name f.value ≡ o → Within (static_field l f o)
+        go (Some j) q = indexed-within j.value (omega (arith, (both_found f.name f.value 61 1 j q).high))
+        go None q = dynamic (first (serves_both f.name f.value) l) refl

@@ -1,7 +1,8 @@
 -- The representations that the encoder chooses for a field list, measured and written one field after another.
-use Rattle.std.specs.Prelude.{ℕ, ◌<◌, ◌≤◌, ◌≡◌, List, [], map, ltb, leb}
+use Rattle.std.specs.Prelude.{ℕ, ◌<◌, ◌≤◌, ◌≡◌, List, [], map, ltb, leb, Result, Ok, Err}
 use Rattle.memory.specs.Choice.{pick, need}
-use Rattle.integers.specs.Answers.{too_long, no_room}
+use Rattle.integers.specs.declared.answer.Refusal.{Refusal}
+use Rattle.integers.specs.declared.answer.Refusal.TheVariants.{TooLong, NoRoom}
 use Rattle.fields.specs.Form.{Field}
 use Rattle.fields.specs.Reading.{InText, FieldListRead, list, read_field_list}
 use Rattle.fields.specs.Reading as reading
@@ -10,6 +11,7 @@ use Rattle.wire.specs.Name.{indexed as by_index, literal as by_bytes}
 use Rattle.blocks.specs.Representation.{Representation, indexed, literal}
 use Rattle.model.specs.Encoder.{choose}
 use Rattle.state.specs.EncoderState.{encoder_of}
+use Rattle.encoder_fields.specs.declared.field.ListField.{ListField}
 use Rattle.encoder_fields.specs.declared.choice.Choice.{Choice}
 use Rattle.encoder_fields.specs.declared.choice.Choice.TheVariants.{Indexed, Named, Literal}
 
@@ -20,6 +22,10 @@ pub record InField (s : List ℕ) (f : FieldPlace) : Type 0 where
   pub value : InText s f.value
   pub name_short : f.name.length ≤ 255
   pub value_short : f.value.length ≤ 2047
+
+-- what it says
+abbrev pub as_field : ListField → Field
+as_field f = record { flag = f.flag; name = f.name.now; value = f.value.now }
 
 -- the representation that a choice for a field stands for
 abbrev pub chosen : Field → Choice → Representation
@@ -37,7 +43,7 @@ Chooses m f choice = chosen f choice ≡ choose (encoder_of m).entries f
 -- the fields of a list that reads well
 abbrev pub fields_in : FieldListRead → List Field
 fields_in (list fs) = fs
-fields_in (reading.FieldListRead.refused number) = []
+fields_in (reading.FieldListRead.refused why) = []
 
 abbrev pub ReadsWell : List ℕ → Type 0
 ReadsWell s = (fs : List Field) × (read_field_list s ≡ list fs)
@@ -51,5 +57,5 @@ unfoldable pub capped : ℕ → ℕ
 capped n = pick (ltb 16384 n) 16385 n
 
 -- "block length 13, 12"
-unfoldable pub room_answer : ℕ → ℕ → ℕ
-room_answer n room = need (leb n 16384) too_long (need (leb n room) no_room 0)
+unfoldable pub room_answer : ℕ → ℕ → Result (Unit {0}) Refusal
+room_answer n room = need (leb n 16384) (Err TooLong) (need (leb n room) (Err NoRoom) (Ok tt))

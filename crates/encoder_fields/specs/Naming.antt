@@ -1,24 +1,22 @@
 -- The names that choices stand for.
 use Rattle.std.specs.Prelude.{ℕ, List}
 use Rattle.wire.specs.Name.{Name, indexed, literal}
-use Rattle.static_search.specs.declared.search.StaticFound.{StaticFound}
-use Rattle.static_search.specs.declared.search.StaticFound.TheVariants.{At, Nothing}
-use Rattle.encoder_fields.specs.declared.name.NameChoice.{NameChoice}
-use Rattle.encoder_fields.specs.declared.name.NameChoice.TheVariants.{Index, Bytes}
 use Rattle.encoder_fields.specs.declared.choice.Choice.{Choice}
 use Rattle.encoder_fields.specs.declared.choice.Choice.TheVariants.{Named, Literal}
+use Rattle.std.specs.Prelude.{Option, Some, None}
+use Rattle.integers.specs.declared.number.TableIndex.{TableIndex}
 
--- the name that a choice stands for
-abbrev pub chosen_name : List ℕ → NameChoice → Name
-chosen_name name (Index i) = indexed i.value
-chosen_name name Bytes = literal name
+-- the name that a choice stands for: by an index, or by its bytes
+abbrev pub chosen_name : List ℕ → Option TableIndex → Name
+chosen_name name (Some i) = indexed i.value
+chosen_name name None = literal name
 
 -- the static entry that was found, else the other choice
-abbrev pub static_first : StaticFound → NameChoice → NameChoice
-static_first (At i) dynamic = Index i
-static_first Nothing dynamic = dynamic
+abbrev pub static_first : Option TableIndex → Option TableIndex → Option TableIndex
+static_first (Some i) dynamic = Some i
+static_first None dynamic = dynamic
 
 -- a literal with this name
-abbrev pub literal_with : NameChoice → Choice
-literal_with (Index i) = Named i
-literal_with Bytes = Literal
+abbrev pub literal_with : Option TableIndex → Choice
+literal_with (Some i) = Named i
+literal_with None = Literal

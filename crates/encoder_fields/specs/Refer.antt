@@ -11,11 +11,10 @@ use Rattle.model.specs.Encoder.{Sent, sent_index, with_sent, refer}
 use Rattle.state.specs.Layout.{count_of}
 use Rattle.state.specs.EncoderState.{encoder_of, overlay_encoder}
 use Rattle.table_search.specs.Search.{find_from}
-use Rattle.table_search.specs.declared.find.Found.{Found}
-use Rattle.table_search.specs.declared.find.Found.TheVariants.{At, Vacant}
 use Rattle.horizons.specs.Horizons.{raised}
 use Rattle.encoder_fields.specs.declared.choice.Choice.{Choice}
 use Rattle.encoder_fields.specs.declared.choice.Choice.TheVariants.{Indexed, Named, Literal}
+use Rattle.std.specs.Prelude.{Result, Ok, Err}
 
 -- every index that the block names is a static one, or held
 abbrev pub AllHeld : List Sent → List Representation → Type 0
@@ -26,9 +25,9 @@ unfoldable pub entered : List ℕ → ℕ → Part → List Representation → L
 entered m stream part rs = overlay_encoder (with_sent (encoder_of m) (map (refer stream part rs) (encoder_of m).entries)) m
 
 -- the horizon of the row that was found raised
-abbrev pub entered_at : List ℕ → ℕ → Part → Found → List ℕ
-entered_at m stream part (At place) = raised m place part stream
-entered_at m stream part (Vacant place) = m
+abbrev pub entered_at : List ℕ → ℕ → Part → Result ℕ ℕ → List ℕ
+entered_at m stream part (Ok place) = raised m place part stream
+entered_at m stream part (Err place) = m
 
 -- one of them: static entries have no horizon
 unfoldable pub entered_one : List ℕ → ℕ → Part → ℕ → List ℕ

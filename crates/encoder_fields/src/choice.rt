@@ -1,16 +1,16 @@
 // The representation of a field: flag 1 is a literal with N; else the lowest static entry with name and value, else the lowest such entry of the header
 // table not under deletion, else a literal. A literal's name is by index where either table has it.
 ghost use Rattle.std.specs.Prelude.{◌≡◌, true};
-ghost use Rattle.fields.specs.Reading.{InText, text_of, field_of};
+ghost use Rattle.fields.specs.Reading.{InText, text_of};
 ghost use Rattle.state.specs.Forms.{forms_encoder};
 ghost use Rattle.encoder_fields.specs.Naming.{literal_with};
-ghost use Rattle.encoder_fields.specs.Measure.{InField, field_with, Chooses};
+ghost use Rattle.encoder_fields.specs.Measure.{as_field, field_with, Chooses};
 
-use crate::name::{NameChoice, choose_name, row_index, static_first};
-use fields::read::{FieldPlace, TextPlace};
+use crate::field::ListField;
+use crate::name::{choose_name, row_index, static_first};
+use fields::read::TextPlace;
 use integers::number::TableIndex;
 use name_search::names::Paired;
-use static_search::search::StaticFound;
 
 #[derive(Clone, Copy)]
 pub enum Choice {
@@ -32,13 +32,13 @@ pub fn text_at(s: &[u8], place: TextPlace) -> &[u8]
     &s[start..end]
 }
 
-// A literal with this name.
-fn literal(name: NameChoice) -> Choice
+// A literal, its name by this index or by its bytes.
+fn literal(name: Option<TableIndex>) -> Choice
     ensures { result ≡ literal_with name }
 {
     match name {
-        NameChoice::Index(i) => Choice::Named(i),
-        NameChoice::Bytes => Choice::Literal,
+        Some(i) => Choice::Named(i),
+        None => Choice::Literal,
     }
 }
 
@@ -47,28 +47,24 @@ fn choose_stored(m: &[u8], name: &[u8], value: &[u8]) -> Choice
     requires { forms_encoder m.now ≡ true }
     ensures { Chooses m.now (field_with 0 name.now value.now) result }
 {
-    match static_lookup::lookup::find_both(name, value) {
-        StaticFound::At(j) => Choice::Indexed(j),
-        StaticFound::Nothing => match name_search::names::find_pair(m, name, value) {
-            Paired::Both(place) => Choice::Indexed(row_index(m, place)),
-            Paired::Name(place) => {
-                literal(static_first(name, NameChoice::Index(row_index(m, place))))
-            }
-            Paired::Nothing => literal(static_first(name, NameChoice::Bytes)),
-        },
+    if let Some(j) = static_lookup::lookup::find_both(name, value) {
+        return Choice::Indexed(j);
+    }
+    let Some(pair) = name_search::names::find_pair(m, name, value) else {
+        return literal(static_first(name, None));
+    };
+    match pair {
+        Paired::Both(place) => Choice::Indexed(row_index(m, place)),
+        Paired::Name(place) => literal(static_first(name, Some(row_index(m, place)))),
     }
 }
 
-// The field of the list `s` that stands there.
-pub fn choose_field(m: &[u8], s: &[u8], f: FieldPlace) -> Choice
-    requires m_value { forms_encoder m.now ≡ true }
-    requires in_field { InField s.now f }
-    ensures { Chooses m.now (field_of s.now f) result }
+pub fn choose_field(m: &[u8], f: ListField) -> Choice
+    requires { forms_encoder m.now ≡ true }
+    ensures { Chooses m.now (as_field f.entry) result }
 {
-    let name = text_at(s, f.name);
-    let value = text_at(s, f.value);
     if f.flag == 1 {
-        return literal(choose_name(m, name));
+        return literal(choose_name(m, f.name));
     }
-    choose_stored(m, name, value)
+    choose_stored(m, f.name, f.value)
 }

@@ -2,6 +2,7 @@
 #![tactic(auto)]
 
 pub mod choice;
+pub mod field;
 pub mod measure;
 pub mod name;
 pub mod write;

@@ -8,15 +8,7 @@ ghost use Rattle.state.specs.Forms.{forms_encoder};
 ghost use Rattle.encoder_fields.specs.Naming.{chosen_name, static_first};
 
 use integers::number::TableIndex;
-use name_search::names::Sought;
 use state::row::index_at;
-use static_search::search::StaticFound;
-
-#[derive(Drop)]
-pub enum NameChoice {
-    Index(TableIndex),
-    Bytes,
-}
 
 // The index of the entry in row `place`.
 pub fn row_index(m: &[u8], place: usize) -> TableIndex
@@ -26,26 +18,23 @@ pub fn row_index(m: &[u8], place: usize) -> TableIndex
     TableIndex::new(index_at(m, place))
 }
 
-// The header table is searched only where the static table has no such name.
-pub fn choose_name(m: &[u8], name: &[u8]) -> NameChoice
+// The index of an entry with the name, or none: then it goes by its bytes. The header table is searched only where the static table has no such name.
+pub fn choose_name(m: &[u8], name: &[u8]) -> Option<TableIndex>
     requires { forms_encoder m.now ≡ true }
     ensures { chosen_name name.now result ≡ choose_name (encoder_of m.now).entries name.now }
 {
     match static_lookup::lookup::find_name(name) {
-        StaticFound::At(i) => NameChoice::Index(i),
-        StaticFound::Nothing => match name_search::names::find_name(m, name) {
-            Sought::Row(place) => NameChoice::Index(row_index(m, place)),
-            Sought::Nothing => NameChoice::Bytes,
+        Some(i) => Some(i),
+        None => match name_search::names::find_name(m, name) {
+            Some(place) => Some(row_index(m, place)),
+            None => None,
         },
     }
 }
 
 // The same choice, where a search for name and value has told already what the header table has for the name.
-pub fn static_first(name: &[u8], dynamic: NameChoice) -> NameChoice
+pub fn static_first(name: &[u8], dynamic: Option<TableIndex>) -> Option<TableIndex>
     ensures { result ≡ static_first (find_name name.now) dynamic }
 {
-    match static_lookup::lookup::find_name(name) {
-        StaticFound::At(i) => NameChoice::Index(i),
-        StaticFound::Nothing => dynamic,
-    }
+    static_lookup::lookup::find_name(name).or(dynamic)
 }

@@ -1,22 +1,24 @@
 // The insert call: name and value as plain bytes in, the instruction out: 17, 13, 7, 12.
 ghost use Rattle.std.specs.Prelude.{◌≡◌, true, ℕ, ◌+◌, ◌≤◌, length};
-ghost use Rattle.wire.specs.Text.{wire_size};
+ghost use Rattle.memory.specs.Bytes.{overlay};
+ghost use Rattle.instructions.specs.Instruction.{Instruction, FineInstruction, instruction_wire};
 ghost use Rattle.state.specs.Layout.{count_of, held_of};
 ghost use Rattle.state.specs.Forms.{forms_encoder};
 ghost use Rattle.table_search.specs.Search.{vacant_row};
 ghost use Rattle.table.specs.Changes.{inserted};
 ghost use Rattle.horizons.specs.Horizons.{horizons_opened};
-ghost use Rattle.sizes.specs.Sizes.{insert_index_size, insert_text_size};
+ghost use Rattle.encoder_fields.specs.Naming.{chosen_name};
 ghost use Rattle.reply.specs.Reply.{answer_of};
 ghost use Rattle.encoder.specs.Calls.{insert_call};
 ghost use Rattle.encoder_insert.specs.Steps.{Fitting, fitting_insert};
 
-use encoder_fields::name::{NameChoice, choose_name};
+use encoder_fields::name::choose_name;
 use horizons::references::open_horizons;
-use instruction_writing::write::{write_insert_index, write_insert_text};
-use integers::answer::{NO_ROOM, NO_STATE, OVER_LIMIT, TOO_LONG};
+use instruction_writing::write::write_insert;
+use integers::answer::Refusal;
 use integers::number::TableIndex;
 use reply::Reply;
+use sizes::{insert_index_size, insert_text_size};
 use state::head::count_of;
 use state::layout::ENTRY_SIZE;
 use state_test::encoder::forms_encoder;
@@ -24,19 +26,27 @@ use table_rows::fits;
 use table_search::find::lowest_vacant;
 use wire::text::{NAME_LIMIT, VALUE_LIMIT, wire_size};
 
-// How many bytes an insert takes whose name is by index, and one whose name is by its bytes.
-fn insert_index_size(index: TableIndex, name: TableIndex, value: &[u8]) -> usize
-    requires { length value.now ≤ 2047 }
-    ensures { (result ≡ insert_index_size index.value name.value (wire_size value.now)) × (result ≤ 2062) }
+// How many bytes an insert takes, its name by the index `by` or by its bytes.
+fn insert_size(index: TableIndex, by: Option<TableIndex>, name: &[u8], value: &[u8]) -> usize
+    requires { (length name.now ≤ 255) × (length value.now ≤ 2047) }
+    ensures { (result ≡ length (instruction_wire (Instruction.insert index.value (chosen_name name.now by) value.now))) × (result ≤ 4110) }
 {
-    sizes::insert_index_size(index, name, wire_size(value))
+    match by {
+        Some(i) => insert_index_size(index, i, wire_size(value)),
+        None => insert_text_size(index, wire_size(name), wire_size(value)),
+    }
 }
 
-fn insert_text_size(index: TableIndex, name: &[u8], value: &[u8]) -> usize
-    requires { (length name.now ≤ 255) × (length value.now ≤ 2047) }
-    ensures { (result ≡ insert_text_size index.value (wire_size name.now) (wire_size value.now)) × (result ≤ 4110) }
+// That insert, written at the front of the output.
+fn put_insert(index: TableIndex, by: Option<TableIndex>, name: &[u8], value: &[u8], out: &mut [u8])
+    requires fine_instruction { FineInstruction (Instruction.insert index.value (chosen_name name.now by) value.now) }
+    requires room { length (instruction_wire (Instruction.insert index.value (chosen_name name.now by) value.now)) ≤ length out.old }
+    ensures { out.new ≡ overlay out.old 0 (instruction_wire (Instruction.insert index.value (chosen_name name.now by) value.now)) }
 {
-    sizes::insert_text_size(index, wire_size(name), wire_size(value))
+    match by {
+        Some(i) => write_insert(index, i, value, out, 0),
+        None => write_insert(index, name, value, out, 0),
+    };
 }
 
 // Puts the entry in at its place, referred to by no block.
@@ -58,29 +68,16 @@ fn insert_fitting(m: &mut [u8], name: &[u8], value: &[u8], out: &mut [u8]) -> Re
     ensures m_after { m.new ≡ (fitting_insert m.old name.now value.now out.old).memory }
     ensures out_after { out.new ≡ (fitting_insert m.old name.now value.now out.old).output }
 {
-    let choice = choose_name(m, name);
+    let by = choose_name(m, name);
     let place = lowest_vacant(m);
     let index = TableIndex::new(TableIndex::FIRST + (place as u32));
-    match choice {
-        NameChoice::Index(i) => {
-            let n = insert_index_size(index, i, value);
-            if out.len() < n {
-                return Reply::refused(NO_ROOM);
-            }
-            write_insert_index(index, i, value, out, 0);
-            enter(m, place, index, name, value);
-            Reply::done(n as u32, index.value)
-        }
-        NameChoice::Bytes => {
-            let n = insert_text_size(index, name, value);
-            if out.len() < n {
-                return Reply::refused(NO_ROOM);
-            }
-            write_insert_text(index, name, value, out, 0);
-            enter(m, place, index, name, value);
-            Reply::done(n as u32, index.value)
-        }
+    let n = insert_size(index, by, name, value);
+    if out.len() < n {
+        return Reply::because(Refusal::NoRoom);
     }
+    put_insert(index, by, name, value, out);
+    enter(m, place, index, name, value);
+    Reply::done(n as u32, index.value)
 }
 
 pub fn insert(m: &mut [u8], name: &[u8], value: &[u8], out: &mut [u8]) -> Reply
@@ -89,17 +86,17 @@ pub fn insert(m: &mut [u8], name: &[u8], value: &[u8], out: &mut [u8]) -> Reply
     ensures out_after { out.new ≡ (insert_call m.old name.now value.now out.old).output }
 {
     if !forms_encoder(m) {
-        return Reply::refused(NO_STATE);
+        return Reply::because(Refusal::NoState);
     }
     if NAME_LIMIT < name.len() {
-        return Reply::refused(TOO_LONG);
+        return Reply::because(Refusal::TooLong);
     }
     if VALUE_LIMIT < value.len() {
-        return Reply::refused(TOO_LONG);
+        return Reply::because(Refusal::TooLong);
     }
     let size = name.len() + value.len() + ENTRY_SIZE;
     if !fits(m, size) {
-        return Reply::refused(OVER_LIMIT);
+        return Reply::because(Refusal::OverLimit);
     }
     insert_fitting(m, name, value, out)
 }

@@ -1,4 +1,4 @@
-// The encoder's insert call.
+// The encoder's insert call. `forms_encoder` is a clause here for the reason that `encoder` gives.
 #![tactic(auto)]
 
 pub mod insert;

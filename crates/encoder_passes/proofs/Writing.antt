@@ -191,6 +191,20 @@ module _ (m₀ : List ℕ) (small : Small m₀) (forms : forms_encoder m₀ ≡ 
               ),
             )
 
+-- what is said of a field that was taken from the list is said of the one that stands there
+abbrev its : List ℕ → Field → Representation
+its m f = choose (encoder_of m).entries f
+
+module _ (m out : List ℕ) (to : ℕ) (write : Bool) {f p : Field} (same : f ≡ p) where
+  pub room-of : (write ≡ true → to + length (representation_wire (its m p)) ≤ length out) → write ≡ true → to + length (representation_wire (its m f)) ≤ length out
+  room-of h = rw same h
+
+  pub passed-field : (stream : ℕ) (part : Part) {n : ℕ} {m' out' : List ℕ} → n ≡ to + length (representation_wire (its m f))
+      → m' ≡ pick write (entered_by m stream part (its m f)) m → out' ≡ over write out to (representation_wire (its m f))
+      → (n ≡ to + length (representation_wire (its m p)))
+      × (m' ≡ pick write (entered_by m stream part (its m p)) m) × (out' ≡ over write out to (representation_wire (its m p)))
+  passed-field stream part a b c = (rw same at a, rw same at b, rw same at c)
+
 -- a pass keeps lengths
 module _ (m₀ : List ℕ) (small : Small m₀) (forms : forms_encoder m₀ ≡ true) (stream : ℕ) (below : stream < streams) (part : Part) (s out₀ : List ℕ) (write : Bool)
     (n : ℕ) (m out : List ℕ) (p : Passed m₀ stream part s out₀ write n m out) where

@@ -13,8 +13,6 @@ use Rattle.memory.proofs.Order.{pick-both, pick_true, pick-false}
 use Rattle.wire.specs.Name.{Name, indexed as indexed_name}
 use Rattle.statics.specs.Table.{Entry}
 use Rattle.static_search.specs.Search.{find_name, find_both}
-use Rattle.static_search.specs.declared.search.StaticFound.{StaticFound}
-use Rattle.static_search.specs.declared.search.StaticFound.TheVariants.{At, Nothing}
 use Rattle.fields.specs.Form.{Field}
 use Rattle.blocks.specs.Representation.{Representation, indexed, literal}
 use Rattle.blocks.specs.Meaning.{block_references}
@@ -30,6 +28,9 @@ use Rattle.state_laws.proofs.EncoderLaws.{encoder-laws}
 use Rattle.state_laws.proofs.EncoderForms.{forms-holds-encoder}
 use Rattle.encoder_fields.specs.Refer.{entered}
 use Rattle.encoder_references.proofs.Entering.{fits-entered}
+use Rattle.std.specs.Prelude.{Some, None}
+use Rattle.integers.specs.declared.number.TableIndex.{TableIndex}
+use Rattle.std.specs.Prelude as prelude
 
 -- ---- entries that differ in their horizons alone
 
@@ -62,9 +63,9 @@ module _ (g : Sent → Sent) (index : (e : Sent) → (g e).index ≡ e.index) (e
         dynamic none = refl
         dynamic (some e) = ap indexed_name (index e)
 
-        go : (o : StaticFound) → static_name (map g l) name o ≡ static_name l name o
-        go (At j) = refl
-        go Nothing = ap (dynamic_name name) (first-same (serves name) (serves-same name) l) ∙ dynamic (first (serves name) l)
+        go : (o : prelude.Option TableIndex) → static_name (map g l) name o ≡ static_name l name o
+        go (Some j) = refl
+        go None = ap (dynamic_name name) (first-same (serves name) (serves-same name) l) ∙ dynamic (first (serves name) l)
 
     choose-same : (f : Field) → choose (map g l) f ≡ choose l f
     unfolding choose static_field dynamic_field
@@ -78,9 +79,9 @@ module _ (g : Sent → Sent) (index : (e : Sent) → (g e).index ≡ e.index) (e
         dynamic none = as-literal 0
         dynamic (some e) = ap indexed (index e)
 
-        go : (o : StaticFound) → static_field (map g l) f o ≡ static_field l f o
-        go (At j) = refl
-        go Nothing =
+        go : (o : prelude.Option TableIndex) → static_field (map g l) f o ≡ static_field l f o
+        go (Some j) = refl
+        go None =
             ap (dynamic_field (map g l) f) (first-same (serves_both f.name f.value) (both-same f.name f.value) l)
             ∙ dynamic (first (serves_both f.name f.value) l)
 

@@ -35,8 +35,6 @@ use Rattle.state_laws.proofs.EncoderForms.{forms-holds-encoder}
 use Rattle.state_laws.proofs.EncoderOverlay.{encoder-fine, length-overlay_encoder, overlay-holds-encoder, overlay-self-encoder}
 use Rattle.parts.specs.Close.{closed_by}
 use Rattle.table_search.specs.Search.{Ordered, find_from}
-use Rattle.table_search.specs.declared.find.Found.{Found}
-use Rattle.table_search.specs.declared.find.Found.TheVariants.{At, Vacant}
 use Rattle.table_laws.specs.DecoderChanges.{found}
 use Rattle.table_laws.specs.EncoderChanges.{referred_at, EncoderChanges}
 use Rattle.table_laws.proofs.FrontFits.{marks-fit}
@@ -48,6 +46,7 @@ use Rattle.encoder_fields.specs.declared.choice.Choice.{Choice}
 use Rattle.encoder_fields.specs.declared.choice.Choice.TheVariants.{Indexed, Named, Literal}
 use Rattle.encoder_references.proofs.Twice.{overlay-twice}
 use Rattle.encoder_references.proofs.Mentions.{refer-row, refer-nothing, refer-text, refer-other, refer-one}
+use Rattle.std.specs.Prelude.{Result, Ok, Err}
 
 map_same : (f g : Sent → Sent) (P : Sent → Type 0) → ((e : Sent) → P e → f e ≡ g e) → (l : List Sent) → Each P l → map f l ≡ map g l
 map_same f g P h [] each = refl
@@ -115,13 +114,13 @@ module _ (E : Encoder) (m : List ℕ) (H : HoldsEncoder E m) (s : ℕ) (p : Part
           held : look sent_index i now.entries ≡ some (refer s p ps x)
           held = look-map sent_index (refer s p ps) (refer-index s p ps) i E.entries ∙ ap (Option.map (refer s p ps)) there
 
-          go : (f : Found) → find_from (after ps) i (count_of (after ps)) 0 ≡ f → entered_at (after ps) s p f ≡ after more
-          go (At place) f =
+          go : (f : Result ℕ ℕ) → find_from (after ps) i (count_of (after ps)) 0 ≡ f → entered_at (after ps) s p f ≡ after more
+          go (Ok place) f =
               (holds-changes now (after ps) (holds ps)).refer i place s p f below
               ∙ ap (λ (l : List Sent). overlay_encoder (with_sent E l) (after ps)) next
               ∙ overlay-twice now (state more) m (encoder-fine (state more) (fits more))
               (rows-kept more E.entries ∙ sym (rows-kept ps E.entries))
-          go (Vacant place) f =
+          go (Err place) f =
               let gone = (holds-changes now (after ps) (holds ps)).nowhere i place f in
               let there' = held in
               nope (cc)
@@ -156,7 +155,7 @@ module _ (m : List ℕ) (stream : ℕ) (part : Part) (index : ℕ) where
   unfolding entered_one
   entered-static h = sym (pick_true (ltb index 62) m _ (lt-ltb index 62 h))
 
-  module _ (high : 62 ≤ index) (f : Found) (e : find_from m index (count_of m) 0 ≡ f) where
+  module _ (high : 62 ≤ index) (f : Result ℕ ℕ) (e : find_from m index (count_of m) 0 ≡ f) where
     pub entered-found : entered_at m stream part f ≡ entered_one m stream part index
     unfolding entered_one
     entered-found = sym (pick-false (ltb index 62) m _ (le-ltb index 62 high) ∙ ap (entered_at m stream part) e)

@@ -5,10 +5,10 @@ ghost use Rattle.parts.specs.Turn.{part_in};
 ghost use Rattle.encoder_fields.specs.Refer.{entered_one, entered_choice};
 
 use encoder_fields::choice::Choice;
-use horizons::references::{refer_nontrailer, refer_trailer};
+use horizons::references::refer;
 use integers::number::{StreamNumber, TableIndex};
 use parts::turn::Part;
-use table_search::find::{Found, find};
+use table_search::find::find;
 
 // A block of this part on this stream refers to this index. Static entries have no horizon.
 fn enter(m: &mut [u8], stream: StreamNumber, part: Part, index: TableIndex)
@@ -19,13 +19,10 @@ fn enter(m: &mut [u8], stream: StreamNumber, part: Part, index: TableIndex)
         return;
     }
     let f = find(m, index);
-    let Found::At(place) = f else {
+    let Ok(place) = f else {
         return;
     };
-    match part {
-        Part::Nontrailer => refer_nontrailer(m, place, stream),
-        Part::Trailer => refer_trailer(m, place, stream),
-    }
+    refer(m, place, part, stream);
 }
 
 // A field of that block refers to the index that its representation names, if it does.

@@ -1,42 +1,34 @@
 // What an index names, and its name and value as a part of the static text or of the table's bytes.
-ghost use Rattle.std.specs.Prelude.{◌≡◌, ℕ, ◌≤◌, ◌<◌};
-ghost use Rattle.statics.specs.Table.{static_text};
+ghost use Rattle.std.specs.Prelude.{◌≡◌, ℕ, ◌≤◌, ◌<◌, length, Some, IfSome};
+ghost use Rattle.statics.specs.Table.{static_text, static_name, static_value};
 ghost use Rattle.state.specs.Layout.{count_of};
 ghost use Rattle.state.specs.Rows.{name_at, value_at};
 ghost use Rattle.table_search.specs.Search.{Ordered};
-ghost use Rattle.entry_places.specs.Place.{locate, Here, InPlace, place_name, place_value, place_lengths};
+ghost use Rattle.entry_places.specs.Place.{locate, InPlace, place_name, place_value, place_lengths};
 
 use integers::number::TableIndex;
 use state::row::{name_length_at, text_at, value_length_at};
 use statics::table::{LAST, static_name, static_place, static_value};
-use table_search::find::{Found, find};
+use table_search::find::find;
 
 // Where an entry stands: in the static table, or in a row of the header table.
 #[derive(Clone, Copy)]
 pub enum EntryPlace {
     Static(TableIndex),
     Dynamic(usize),
-    Nowhere,
 }
 
-// The lengths of an entry's name and value, or that there is none.
-#[derive(Drop)]
-pub enum EntryLengths {
-    Of(usize, usize),
-    Vacant,
-}
-
-// What this index names.
-pub fn locate(m: &[u8], index: TableIndex) -> EntryPlace
+// What this index names, if it names an entry.
+pub fn locate(m: &[u8], index: TableIndex) -> Option<EntryPlace>
     requires { (1 ≤ index.value) × Ordered m.now }
     ensures { result ≡ locate m.now index.value }
 {
     if index.value <= LAST {
-        return EntryPlace::Static(index);
+        return Some(EntryPlace::Static(index));
     }
     match find(m, index) {
-        Found::At(i) => EntryPlace::Dynamic(i),
-        Found::Vacant(_) => EntryPlace::Nowhere,
+        Ok(i) => Some(EntryPlace::Dynamic(i)),
+        Err(_) => None,
     }
 }
 
@@ -60,18 +52,27 @@ pub fn row_value(m: &[u8], i: usize) -> &[u8]
     &m[start..end]
 }
 
-// The lengths that row `i` has.
-fn row_lengths(m: &[u8], i: usize) -> EntryLengths
-    requires { (i < count_of m.now) × Ordered m.now }
-    ensures { result ≡ place_lengths m.now (EntryPlace.Dynamic i) }
+// The lengths that a static entry has.
+fn static_lengths(index: TableIndex) -> Option<(usize, usize)>
+    requires { (1 ≤ index.value) × (index.value ≤ 61) }
+    ensures { result ≡ Some (length (static_name index.value), length (static_value index.value)) }
 {
-    EntryLengths::Of(
-        name_length_at(m, i) as usize,
-        value_length_at(m, i) as usize,
-    )
+    let p = static_place(index);
+    Some((p.name as usize, p.value as usize))
 }
 
-// The name that stands there.
+// The lengths that row `i` has.
+fn row_lengths(m: &[u8], i: usize) -> Option<(usize, usize)>
+    requires { (i < count_of m.now) × Ordered m.now }
+    ensures { result ≡ place_lengths m.now (Some (EntryPlace.Dynamic i)) }
+{
+    Some((
+        name_length_at(m, i) as usize,
+        value_length_at(m, i) as usize,
+    ))
+}
+
+// The name that stands there. It and `value_at` are two functions: one generic function would take both arms as closures, and is no plainer.
 pub fn name_at<'a>(text: &'a [u8], m: &'a [u8], place: EntryPlace) -> &'a [u8]
     requires text_value { text.now ≡ static_text }
     requires ordered { Ordered m.now }
@@ -81,7 +82,6 @@ pub fn name_at<'a>(text: &'a [u8], m: &'a [u8], place: EntryPlace) -> &'a [u8]
     match place {
         EntryPlace::Static(index) => static_name(text, index),
         EntryPlace::Dynamic(i) => row_name(m, i),
-        EntryPlace::Nowhere => &m[0..0],
     }
 }
 
@@ -95,22 +95,18 @@ pub fn value_at<'a>(text: &'a [u8], m: &'a [u8], place: EntryPlace) -> &'a [u8]
     match place {
         EntryPlace::Static(index) => static_value(text, index),
         EntryPlace::Dynamic(i) => row_value(m, i),
-        EntryPlace::Nowhere => &m[0..0],
     }
 }
 
-// The lengths of what stands there, for which no static text is needed.
-pub fn lengths_at(m: &[u8], place: EntryPlace) -> EntryLengths
+// The lengths of the name and of the value that stand there, for which no static text is needed; none where nothing does.
+pub fn lengths_at(m: &[u8], place: Option<EntryPlace>) -> Option<(usize, usize)>
     requires ordered { Ordered m.now }
-    requires in_place { Here place → InPlace m.now place }
+    requires in_place { IfSome place (InPlace m.now) }
     ensures { result ≡ place_lengths m.now place }
 {
     match place {
-        EntryPlace::Static(index) => {
-            let p = static_place(index);
-            EntryLengths::Of(p.name as usize, p.value as usize)
-        }
-        EntryPlace::Dynamic(i) => row_lengths(m, i),
-        EntryPlace::Nowhere => EntryLengths::Vacant,
+        Some(EntryPlace::Static(index)) => static_lengths(index),
+        Some(EntryPlace::Dynamic(i)) => row_lengths(m, i),
+        None => None,
     }
 }

@@ -1,2 +1,3 @@
--- Laws of the search for reports.
+-- Laws of the search for reports, and which of two is the later one.
+pub mod Latest
 pub mod Searching

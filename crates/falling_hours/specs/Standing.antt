@@ -1,16 +1,17 @@
 -- Where a machine stands (docs/RECORDINGS.md, "At the end").
-use Rattle.std.specs.Prelude.{Bool, ℕ, eqb, ltb, leb}
+use Rattle.std.specs.Prelude.{Bool, ℕ, eqb, ltb, leb, Option, Some, None}
 use Rattle.memory.specs.Choice.{pick}
 use Rattle.falling_hours.specs.declared.standing.Standing.{Standing}
+use Rattle.falling_hours.specs.declared.falls.StreamHours.{StreamHours}
 use Rattle.falling_hours.specs.declared.falls.Fall.{Fall}
-use Rattle.falling_hours.specs.declared.falls.Fall.TheVariants.{Nothing, Below, Above}
+use Rattle.falling_hours.specs.declared.falls.Fall.TheVariants.{Below, Above}
 
 abbrev pub larger : ℕ → ℕ → ℕ
 larger a b = pick (ltb a b) b a
 
 -- a machine's first report
-abbrev pub first_report : ℕ → ℕ → ℕ → Standing
-first_report table stream tenths = record { table = table; stream = stream; tenths = tenths; most = tenths; before = 0 }
+abbrev pub first_report : ℕ → StreamHours → Standing
+first_report table report = record { table = table; latest = report; most = report.tenths; before = 0 }
 
 -- "the most hours of the machine in earlier tables of the decoder"
 abbrev pub most_before : Standing → ℕ → ℕ
@@ -18,23 +19,21 @@ most_before s table = pick (ltb s.table table) (larger s.before s.most) s.before
 
 -- "of the messages whose hours were told, the one of the highest stream in the latest table, and of several on that stream the one with the most hours, whatever
 -- the order in which they came"
-unfoldable pub is_later : ℕ → ℕ → ℕ → ℕ → Bool
-is_later stream tenths other more = pick (eqb stream other) (ltb tenths more) (ltb stream other)
+unfoldable pub is_later : StreamHours → StreamHours → Bool
+is_later one other = pick (eqb one.stream other.stream) (ltb one.tenths other.tenths) (ltb one.stream other.stream)
 
-abbrev pub with_report : Standing → ℕ → ℕ → ℕ → Standing
-with_report s table stream tenths =
+abbrev pub with_report : Standing → ℕ → StreamHours → Standing
+with_report s table report =
     pick (ltb s.table table)
-    (record { table = table; stream = stream; tenths = tenths; most = tenths; before = larger s.before s.most })
-    (pick (is_later s.stream s.tenths stream tenths)
-    (record { table = s.table; stream = stream; tenths = tenths; most = larger s.most tenths; before = s.before })
-    (record { table = s.table; stream = s.stream; tenths = s.tenths; most = larger s.most tenths; before = s.before }))
+    (record { table = table; latest = report; most = report.tenths; before = larger s.before s.most })
+    (record { table = s.table; latest = pick (is_later s.latest report) report s.latest; most = larger s.most report.tenths; before = s.before })
 
 -- "one of these two, with the machine's latest report in this table": one up to the message's stream with more hours, or one above it with fewer
-abbrev pub latest_fall : ℕ → ℕ → ℕ → ℕ → Fall
-latest_fall latest other stream tenths =
-    pick (leb latest stream)
-    (pick (ltb tenths other) (Below latest other) Nothing)
-    (pick (ltb other tenths) (Above latest other) Nothing)
+abbrev pub latest_fall : StreamHours → StreamHours → Option Fall
+latest_fall latest report =
+    pick (leb latest.stream report.stream)
+    (pick (ltb report.tenths latest.tenths) (Some (Below latest)) None)
+    (pick (ltb latest.tenths report.tenths) (Some (Above latest)) None)
 
-unfoldable pub fall_from : Standing → ℕ → ℕ → ℕ → Fall
-fall_from s table stream tenths = pick (eqb s.table table) (latest_fall s.stream s.tenths stream tenths) Nothing
+unfoldable pub fall_from : Standing → ℕ → StreamHours → Option Fall
+fall_from s table report = pick (eqb s.table table) (latest_fall s.latest report) None

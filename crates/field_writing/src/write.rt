@@ -17,6 +17,7 @@ fn text_size(n: usize) -> usize
 }
 
 // How many bytes a field takes.
+#[tactic(auto, unfolding(fields::specs::Form::field_size))]
 pub fn field_size(name: usize, value: usize) -> usize
     requires { (name ≤ name_limit) × (value ≤ value_limit) }
     ensures { result ≡ field_size name value }
@@ -35,6 +36,7 @@ pub fn write_length(n: usize, out: &mut [u8], at: usize) -> usize
 }
 
 // Writes a name or a value with its length before it, and answers the place after it.
+#[tactic(auto, unfolding(fields::specs::Form::text_form))]
 pub fn write_text(text: &[u8], out: &mut [u8], at: usize) -> usize
     requires text_len_bound { length text.now ≤ value_limit }
     requires text_in_bounds { at + length (text_form text.now) ≤ length out.old }
@@ -46,6 +48,7 @@ pub fn write_text(text: &[u8], out: &mut [u8], at: usize) -> usize
 }
 
 // Writes a field at the place `at`, and answers the place after it.
+#[tactic(auto, unfolding(fields::specs::Form::field_form))]
 pub fn write_field(flag: u8, name: &[u8], value: &[u8], out: &mut [u8], at: usize) -> usize
     requires name_len_bound { (length name.now ≤ name_limit) × (length value.now ≤ value_limit) }
     requires value_in_bounds { at + length (field_form (record { flag = flag; name = name.now; value = value.now })) ≤ length out.old }

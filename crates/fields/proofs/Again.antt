@@ -6,16 +6,14 @@ use mathlib.Core.Logic.{⊎_elim}
 use mathlib.Core.List.{List}
 use lib.ListN.{length, get_or}
 use borrow.Author.Tests.{lt-ltb, le-ltb}
-use Rattle.memory.proofs.Order.{split}
-use Rattle.fields.specs.Reading.{field_answer, read_text, text_start, read_field, InText}
+use Rattle.fields.specs.Reading.{text_answer, field_answer, read_text, text_start, read_field, InText}
 use Rattle.fields.specs.declared.read.TextPlace.{TextPlace}
-use Rattle.fields.specs.declared.read.TextRead.TheVariants.{Text}
 use Rattle.fields.specs.declared.read.FieldPlace.{FieldPlace}
-use Rattle.fields.specs.declared.read.FieldRead.{FieldRead}
-use Rattle.fields.specs.declared.read.FieldRead.TheVariants.{Found, Refused}
 use Rattle.fields.proofs.Texts.{field_found}
 use Rattle.fields.proofs.Inverse.{length-each, text-inverse, Parts, field-inverse, field-number}
 use Rattle.fields.proofs.Bounds.{text-bounds}
+use Rattle.std.specs.Prelude.{Ok, Err}
+use Rattle.integers.specs.Answers.{Read}
 
 -- ---- the two forms of a length
 
@@ -29,18 +27,9 @@ module _ (s : List ℕ) (at b : ℕ) (e : b ≡ get_or s at 0) where
     unfolding text_start
     start-two d f = simp (← e, ← f, le-ltb b 128 h)
 
-    pub two-inside : InText s (text_start s at) → at + 1 < length s
-    two-inside i = omega (arith, ap (λ (p : TextPlace). p.start) (start-two _ refl))
-
-pub one_inside : (s : List ℕ) (at : ℕ) → InText s (text_start s at) → at < length s
-one_inside s at i =
-    split (get_or s at 0) 128
-    (λ h. omega (arith, ap (λ (p : TextPlace). p.start) (start-one s at _ refl h)))
-    (λ h. omega (arith, two-inside s at _ refl h i))
-
 -- ---- a text that reads well
 
-module _ (s : List ℕ) (at limit : ℕ) (p : TextPlace) (next : ℕ) (e : read_text s at limit ≡ Text p next) where
+module _ (s : List ℕ) (at limit : ℕ) (p : TextPlace) (next : ℕ) (e : read_text s at limit ≡ Ok (p, next)) where
   text-place : p ≡ text_start s at
   text-place =
       length-each s at limit (λ n next. record { start = next; length = n } ≡ text_start s at)
@@ -48,16 +37,16 @@ module _ (s : List ℕ) (at limit : ℕ) (p : TextPlace) (next : ℕ) (e : read_
       (λ h k l m q. sym (start-two s at _ refl k _ refl))
       p.length p.start (text-inverse s at limit p next e).0
 
-  text-again : (q : TextPlace) → q ≡ text_start s at → read_text s at limit ≡ Text q (q.start + q.length)
+  text-again : (q : TextPlace) → q ≡ text_start s at → read_text s at limit ≡ Ok (q, q.start + q.length)
   text-again q d =
-      subst (λ (q : TextPlace). read_text s at limit ≡ Text q (q.start + q.length)) (text-place ∙ sym d)
-      (e ∙ ap (Text p) (text-inverse s at limit p next e).2)
+      subst (λ (q : TextPlace). read_text s at limit ≡ Ok (q, q.start + q.length)) (text-place ∙ sym d)
+      (e ∙ ap (λ (n : ℕ). Ok (p, n)) (text-inverse s at limit p next e).2)
 
 -- ---- a field that reads well
 
-zero-parts : (s : List ℕ) (at : ℕ) (r : FieldRead) → r ≡ read_field s at → (field_answer r).number ≡ 0 → (p : FieldPlace) × (next : ℕ) × Parts s at p next
-zero-parts s at (Found p next) e z = (p, next, field-inverse s at p next (sym e))
-zero-parts s at (Refused number) e z = ⊎_elim (λ d. absurd (omega arith)) (λ d. absurd (omega arith)) (field-number s at number (sym e))
+zero-parts : (s : List ℕ) (at : ℕ) (r : Read FieldPlace) → r ≡ read_field s at → (field_answer r).number ≡ 0 → (p : FieldPlace) × (next : ℕ) × Parts s at p next
+zero-parts s at (Ok (p, next)) e z = (p, next, field-inverse s at p next (sym e))
+zero-parts s at (Err why) e z = ⊎_elim (λ d. absurd (omega arith)) (λ d. absurd (omega arith)) (field-number s at why (sym e))
 
 module _ (s : List ℕ) (at : ℕ) (z : (field_answer (read_field s at)).number ≡ 0) where
   parts : (p : FieldPlace) × (next : ℕ) × Parts s at p next
@@ -67,22 +56,23 @@ module _ (s : List ℕ) (at : ℕ) (z : (field_answer (read_field s at)).number 
   flag-inside = parts.2.inside
 
   module _ (name : TextPlace) (e : name ≡ text_start s (at + 1)) where
-    name-again : read_text s (at + 1) 255 ≡ Text name (name.start + name.length)
+    name-again : read_text s (at + 1) 255 ≡ Ok (name, name.start + name.length)
     name-again = text-again s (at + 1) 255 _ _ parts.2.name-read name e
 
     pub name-inside : InText s name
     name-inside = (text-bounds s (at + 1) 255 _ _ name-again).inside
 
     module _ (value : TextPlace) (f : value ≡ text_start s (name.start + name.length)) where
-      value-again : read_text s (name.start + name.length) 2047 ≡ Text value (value.start + value.length)
+      value-again : read_text s (name.start + name.length) 2047 ≡ Ok (value, value.start + value.length)
       value-again =
-          let same : Text parts.0.name parts.2.middle ≡ Text name (name.start + name.length) = sym parts.2.name-read ∙ name-again in
-          let here : parts.2.middle ≡ name.start + name.length = cc in
+          let here : parts.2.middle ≡ name.start + name.length =
+          ap (λ (r : Read TextPlace). (text_answer r).second) (sym parts.2.name-read ∙ name-again)
+          in
           text-again s _ 2047 parts.0.value parts.1 (rw here at parts.2.value_read) value f
 
       pub value-inside : InText s value
       value-inside = (text-bounds s _ 2047 _ _ value-again).inside
 
-      pub field-again : read_field s at ≡ Found (record { flag = get_or s at 0; name = name; value = value }) (value.start + value.length)
+      pub field-again : read_field s at ≡ Ok (record { flag = get_or s at 0; name = name; value = value }, value.start + value.length)
       field-again =
           field_found s at parts.2.inside (omega (arith, parts.2.flag-there, parts.2.flag_bit)) _ refl name _ name-again _ refl value _ value-again

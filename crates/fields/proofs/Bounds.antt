@@ -7,16 +7,12 @@ use mathlib.Core.List.{List}
 use lib.ListN.{length}
 use Rattle.fields.specs.Reading.{read_length, read_text, read_field, InText}
 use Rattle.fields.specs.declared.read.TextPlace.{TextPlace}
-use Rattle.fields.specs.declared.read.LengthRead.{LengthRead}
-use Rattle.fields.specs.declared.read.LengthRead.TheVariants.{Length}
-use Rattle.fields.specs.declared.read.TextRead.{TextRead}
-use Rattle.fields.specs.declared.read.TextRead.TheVariants.{Text}
 use Rattle.fields.specs.declared.read.FieldPlace.{FieldPlace}
-use Rattle.fields.specs.declared.read.FieldRead.{FieldRead}
-use Rattle.fields.specs.declared.read.FieldRead.TheVariants.{Found}
 use Rattle.fields.proofs.Inverse.{length-each, text-inverse, Parts, field-inverse}
+use Rattle.std.specs.Prelude.{Ok}
+use Rattle.integers.specs.Answers.{Read}
 
-pub length-bounds : (s : List ℕ) (at limit n next : ℕ) → read_length s at limit ≡ Length n next
+pub length-bounds : (s : List ℕ) (at limit n next : ℕ) → read_length s at limit ≡ Ok (n, next)
     → (at < next) × (next ≤ length s) × (n ≤ limit)
 length-bounds s at limit n next e =
     length-each s at limit (λ n next. (at < next) × (next ≤ length s) × (n ≤ limit))
@@ -29,7 +25,7 @@ pub record TextBounds (s : List ℕ) (at limit : ℕ) (p : TextPlace) (next : �
   pub inside : next ≤ length s
   pub short : p.length ≤ limit
 
-pub text-bounds : (s : List ℕ) (at limit : ℕ) (p : TextPlace) (next : ℕ) → read_text s at limit ≡ Text p next → TextBounds s at limit p next
+pub text-bounds : (s : List ℕ) (at limit : ℕ) (p : TextPlace) (next : ℕ) → read_text s at limit ≡ Ok (p, next) → TextBounds s at limit p next
 text-bounds s at limit p next e =
     let i = text-inverse s at limit p next e in
     let b = length-bounds s at limit p.length p.start i.0 in
@@ -44,7 +40,7 @@ pub record FieldBounds (s : List ℕ) (at : ℕ) (p : FieldPlace) (next : ℕ) :
   pub name_short : p.name.length ≤ 255
   pub value_short : p.value.length ≤ 2047
 
-pub field-bounds : (s : List ℕ) (at : ℕ) (p : FieldPlace) (next : ℕ) → read_field s at ≡ Found p next → FieldBounds s at p next
+pub field-bounds : (s : List ℕ) (at : ℕ) (p : FieldPlace) (next : ℕ) → read_field s at ≡ Ok (p, next) → FieldBounds s at p next
 field-bounds s at p next e =
     let i : Parts s at p next = field-inverse s at p next e in
     let n = text-bounds s (at + 1) 255 p.name i.middle i.name-read in
@@ -60,14 +56,10 @@ field-bounds s at p next e =
     }
 
 -- the same of an answer that is that reading, as a function's proof has it
-pub length-good : (s : List ℕ) (at limit : ℕ) (r : LengthRead) → r ≡ read_length s at limit → (n next : ℕ) → r ≡ Length n next
+pub length-good : (s : List ℕ) (at limit : ℕ) (r : Read ℕ) → r ≡ read_length s at limit → (n next : ℕ) → r ≡ Ok (n, next)
     → (at < next) × (next ≤ length s) × (n ≤ limit)
 length-good s at limit r e n next d = length-bounds s at limit n next (sym e ∙ d)
 
-pub text-good : (s : List ℕ) (at limit : ℕ) (r : TextRead) → r ≡ read_text s at limit → (p : TextPlace) (next : ℕ) → r ≡ Text p next
-    → TextBounds s at limit p next
-text-good s at limit r e p next d = text-bounds s at limit p next (sym e ∙ d)
-
-pub field-good : (s : List ℕ) (at : ℕ) (r : FieldRead) → r ≡ read_field s at → (p : FieldPlace) (next : ℕ) → r ≡ Found p next
+pub field-good : (s : List ℕ) (at : ℕ) (r : Read FieldPlace) → r ≡ read_field s at → (p : FieldPlace) (next : ℕ) → r ≡ Ok (p, next)
     → FieldBounds s at p next
 field-good s at r e p next d = field-bounds s at p next (sym e ∙ d)

@@ -10,20 +10,18 @@ use Rattle.memory.proofs.Places.{has_join, part-has, length_part}
 use Rattle.fields.specs.Form.{FineField, length_form, text_form, field_form}
 use Rattle.fields.specs.Reading.{read_length, read_text, read_field, text_of, field_of}
 use Rattle.fields.specs.declared.read.TextPlace.{TextPlace}
-use Rattle.fields.specs.declared.read.LengthRead.TheVariants.{Length}
-use Rattle.fields.specs.declared.read.TextRead.TheVariants.{Text}
 use Rattle.fields.specs.declared.read.FieldPlace.{FieldPlace}
-use Rattle.fields.specs.declared.read.FieldRead.TheVariants.{Found}
 use Rattle.fields.proofs.Inverse.{length-each, text-inverse, Parts, field-inverse}
 use Rattle.fields.proofs.Bounds.{text-bounds, FieldBounds, field-bounds}
 use Rattle.fields.proofs.Sizes.{form-one, form-two, text_form-split, field_form-split}
+use Rattle.std.specs.Prelude.{Ok}
 
 -- the form's bytes stand at a place and end at another
 abbrev pub Stands : List ℕ → ℕ → ℕ → List ℕ → Type 0
 Stands s at next form = Has s at form × (next ≡ at + length form)
 
 module _ (s : List ℕ) (small : Small s) where
-  pub length-forth : (at limit n next : ℕ) → read_length s at limit ≡ Length n next → Stands s at next (length_form n)
+  pub length-forth : (at limit n next : ℕ) → read_length s at limit ≡ Ok (n, next) → Stands s at next (length_form n)
   length-forth at limit n next e =
       length-each s at limit (λ n next. Stands s at next (length_form n))
       (λ h k l. rw (form-one (get_or s at 0) k) ((h, refl, tt), refl))
@@ -34,7 +32,7 @@ module _ (s : List ℕ) (small : Small s) where
       let y : get_or s (at + 1) 0 ≡ n / 128 = omega arith in
       rw (form-two n (omega arith) (omega arith)) ((omega arith, x, (h, y, tt)), refl)) n next e
 
-  pub text-forth : (at limit : ℕ) (p : TextPlace) (next : ℕ) → read_text s at limit ≡ Text p next → Stands s at next (text_form (text_of s p))
+  pub text-forth : (at limit : ℕ) (p : TextPlace) (next : ℕ) → read_text s at limit ≡ Ok (p, next) → Stands s at next (text_form (text_of s p))
   unfolding text_form
   text-forth at limit p next e =
       let i = text-inverse s at limit p next e in
@@ -45,7 +43,7 @@ module _ (s : List ℕ) (small : Small s) where
       let z : Has s (at + length (length_form p.length)) (text_of s p) = subst (λ (k : ℕ). Has s k (text_of s p)) l.1 y in
       (rw x (has_join s at (length_form p.length) (text_of s p) l.0 z), omega (arith, text_form-split (text_of s p), ap (λ (k : ℕ). length (length_form k)) x))
 
-  pub field-forth : (at : ℕ) (p : FieldPlace) (next : ℕ) → read_field s at ≡ Found p next
+  pub field-forth : (at : ℕ) (p : FieldPlace) (next : ℕ) → read_field s at ≡ Ok (p, next)
       → Has s at (field_form (field_of s p)) × (next ≡ at + length (field_form (field_of s p))) × FineField (field_of s p)
   unfolding field_form
   field-forth at p next e =

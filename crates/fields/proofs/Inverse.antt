@@ -8,41 +8,30 @@ use lib.ListN.{length, get_or}
 use Rattle.memory.proofs.Order.{split}
 use Rattle.fields.specs.Reading.{read_length, read_text, read_field}
 use Rattle.fields.specs.declared.read.TextPlace.{TextPlace}
-use Rattle.fields.specs.declared.read.LengthRead.{LengthRead}
-use Rattle.fields.specs.declared.read.LengthRead.TheVariants.{Length, Refused as LengthRefused}
-use Rattle.fields.specs.declared.read.TextRead.{TextRead}
-use Rattle.fields.specs.declared.read.TextRead.TheVariants.{Text, Refused as TextRefused}
 use Rattle.fields.specs.declared.read.FieldPlace.{FieldPlace}
-use Rattle.fields.specs.declared.read.FieldRead.{FieldRead}
-use Rattle.fields.specs.declared.read.FieldRead.TheVariants.{Found, Refused}
-use Rattle.fields.proofs.Lengths.{
-  length_none,
-  length-one,
-  length-one-long,
-  length_cut,
-  length-third,
-  length-padded,
-  length_two,
-  length-two-long,
-}
+use Rattle.fields.proofs.Lengths.{length_none, length-one, length-one-long, length_cut, length-third, length-padded, length_two, length-two-long}
 use Rattle.fields.proofs.Texts.{text-refused, text-cut, text-found, field-none, flag-refused, name-refused, value-refused, field_found}
+use Rattle.std.specs.Prelude.{Ok, Err}
+use Rattle.integers.specs.Answers.{Read, number_of}
+use Rattle.integers.specs.declared.answer.Refusal.TheVariants.{BadFieldList, TooLong}
+use Rattle.integers.specs.declared.answer.Refusal.{Refusal}
 
 -- the numbers of a refusal: 13, too long, and 16, not in the form
-abbrev pub RefusalNumber : ℕ → Type 0
-RefusalNumber number = (number ≡ 13) ⊎ (number ≡ 16)
+abbrev pub RefusalNumber : Refusal → Type 0
+RefusalNumber why = (number_of why ≡ 13) ⊎ (number_of why ≡ 16)
 
 -- ---- a length: what holds of both its forms holds of every length that is read
 
-module _ (s : List ℕ) (at limit : ℕ) (P : LengthRead → Type 0) where
+module _ (s : List ℕ) (at limit : ℕ) (P : Read ℕ → Type 0) where
   -- every way through, by what it answers
-  pub length-cases : ((number : ℕ) → RefusalNumber number → P (LengthRefused number))
-      → (at < length s → get_or s at 0 < 128 → get_or s at 0 ≤ limit → P (Length (get_or s at 0) (at + 1)))
+  pub length-cases : ((why : Refusal) → RefusalNumber why → P (Err why))
+      → (at < length s → get_or s at 0 < 128 → get_or s at 0 ≤ limit → P (Ok (get_or s at 0, at + 1)))
       → (at + 1 < length s → 128 ≤ get_or s at 0 → 0 < get_or s (at + 1) 0 → get_or s (at + 1) 0 < 128
-      → get_or s at 0 % 128 + 128 * get_or s (at + 1) 0 ≤ limit → P (Length (get_or s at 0 % 128 + 128 * get_or s (at + 1) 0) (at + 2)))
+      → get_or s at 0 % 128 + 128 * get_or s (at + 1) 0 ≤ limit → P (Ok (get_or s at 0 % 128 + 128 * get_or s (at + 1) 0, at + 2)))
       → P (read_length s at limit)
   length-cases bad one two =
-      let long : P (LengthRefused 13) = bad 13 (inl refl) in
-      let form : P (LengthRefused 16) = bad 16 (inr refl) in
+      let long : P (Err TooLong) = bad TooLong (inl refl) in
+      let form : P (Err BadFieldList) = bad BadFieldList (inr refl) in
       split at (length s)
       (λ h. split (get_or s at 0) 128
       (λ k. split limit (get_or s at 0)
@@ -59,42 +48,42 @@ module _ (s : List ℕ) (at limit : ℕ) (P : LengthRead → Type 0) where
       (λ l. rw (length_cut s at limit h (get_or s at 0) refl k l) form)))
       (λ h. rw (length_none s at limit h) form)
 
-abbrev IfLength : (ℕ → ℕ → Type 0) → LengthRead → Type 0
-IfLength P (Length n next) = P n next
-IfLength P (LengthRefused number) = RefusalNumber number
+abbrev IfLength : (ℕ → ℕ → Type 0) → Read ℕ → Type 0
+IfLength P (Ok (n, next)) = P n next
+IfLength P (Err why) = RefusalNumber why
 
 module _ (s : List ℕ) (at limit : ℕ) where
   pub length-each : (P : ℕ → ℕ → Type 0) → (at < length s → get_or s at 0 < 128 → get_or s at 0 ≤ limit → P (get_or s at 0) (at + 1))
       → (at + 1 < length s → 128 ≤ get_or s at 0 → 0 < get_or s (at + 1) 0 → get_or s (at + 1) 0 < 128
       → get_or s at 0 % 128 + 128 * get_or s (at + 1) 0 ≤ limit → P (get_or s at 0 % 128 + 128 * get_or s (at + 1) 0) (at + 2))
-      → (n next : ℕ) → read_length s at limit ≡ Length n next → P n next
-  length-each P one two n next e = subst (IfLength P) e (length-cases s at limit (IfLength P) (λ number r. r) one two)
+      → (n next : ℕ) → read_length s at limit ≡ Ok (n, next) → P n next
+  length-each P one two n next e = subst (IfLength P) e (length-cases s at limit (IfLength P) (λ why r. r) one two)
 
-  pub length-number : (number : ℕ) → read_length s at limit ≡ LengthRefused number → RefusalNumber number
-  length-number number e =
+  pub length-number : (why : Refusal) → read_length s at limit ≡ Err why → RefusalNumber why
+  length-number why e =
       subst (IfLength (λ n next. Unit {0})) e
-      (length-cases s at limit (IfLength (λ n next. Unit {0})) (λ number r. r) (λ h k l. tt) (λ h k l m p. tt))
+      (length-cases s at limit (IfLength (λ n next. Unit {0})) (λ why r. r) (λ h k l. tt) (λ h k l m p. tt))
 
 -- ---- a text: its length was read before it, and its bytes are there
 
-abbrev IfText : List ℕ → ℕ → ℕ → TextRead → Type 0
-IfText s at limit (Text p next) =
-    (read_length s at limit ≡ Length p.length p.start) × (p.length ≤ length s - p.start) × (next ≡ p.start + p.length)
-IfText s at limit (TextRefused number) = RefusalNumber number
+abbrev IfText : List ℕ → ℕ → ℕ → Read TextPlace → Type 0
+IfText s at limit (Ok (p, next)) =
+    (read_length s at limit ≡ Ok (p.length, p.start)) × (p.length ≤ length s - p.start) × (next ≡ p.start + p.length)
+IfText s at limit (Err why) = RefusalNumber why
 
-if-text : (s : List ℕ) (at limit : ℕ) → (r : LengthRead) → r ≡ read_length s at limit → IfText s at limit (read_text s at limit)
-if-text s at limit (LengthRefused number) e = rw (text-refused s at limit _ e number refl) (length-number s at limit number (sym e))
-if-text s at limit (Length n start) e =
+if-text : (s : List ℕ) (at limit : ℕ) → (r : Read ℕ) → r ≡ read_length s at limit → IfText s at limit (read_text s at limit)
+if-text s at limit (Err why) e = rw (text-refused s at limit _ e why refl) (length-number s at limit why (sym e))
+if-text s at limit (Ok (n, start)) e =
     split (length s - start) n
     (λ h. rw (text-cut s at limit _ e n start refl h) (inr refl))
     (λ h. rw (text-found s at limit _ e n start refl h) (sym e, h, refl))
 
-pub text-inverse : (s : List ℕ) (at limit : ℕ) (p : TextPlace) (next : ℕ) → read_text s at limit ≡ Text p next
-    → (read_length s at limit ≡ Length p.length p.start) × (p.length ≤ length s - p.start) × (next ≡ p.start + p.length)
+pub text-inverse : (s : List ℕ) (at limit : ℕ) (p : TextPlace) (next : ℕ) → read_text s at limit ≡ Ok (p, next)
+    → (read_length s at limit ≡ Ok (p.length, p.start)) × (p.length ≤ length s - p.start) × (next ≡ p.start + p.length)
 text-inverse s at limit p next e = subst (IfText s at limit) e (if-text s at limit _ refl)
 
-pub text-number : (s : List ℕ) (at limit number : ℕ) → read_text s at limit ≡ TextRefused number → RefusalNumber number
-text-number s at limit number e = subst (IfText s at limit) e (if-text s at limit _ refl)
+pub text-number : (s : List ℕ) (at limit : ℕ) (why : Refusal) → read_text s at limit ≡ Err why → RefusalNumber why
+text-number s at limit why e = subst (IfText s at limit) e (if-text s at limit _ refl)
 
 -- ---- a field: its flag, its name and its value were read one after another
 
@@ -104,25 +93,25 @@ pub record Parts (s : List ℕ) (at : ℕ) (p : FieldPlace) (next : ℕ) : Type 
   pub flag-there : p.flag ≡ get_or s at 0
   pub flag_bit : p.flag ≤ 1
   pub middle : ℕ
-  pub name-read : read_text s (at + 1) 255 ≡ Text p.name middle
-  pub value_read : read_text s middle 2047 ≡ Text p.value next
+  pub name-read : read_text s (at + 1) 255 ≡ Ok (p.name, middle)
+  pub value_read : read_text s middle 2047 ≡ Ok (p.value, next)
 
-abbrev IfField : List ℕ → ℕ → FieldRead → Type 0
-IfField s at (Found p next) = Parts s at p next
-IfField s at (Refused number) = RefusalNumber number
+abbrev IfField : List ℕ → ℕ → Read FieldPlace → Type 0
+IfField s at (Ok (p, next)) = Parts s at p next
+IfField s at (Err why) = RefusalNumber why
 
 module _ (s : List ℕ) (at : ℕ) (h : at < length s) (k : get_or s at 0 ≤ 1) where
-  if-value : (name : TextPlace) (middle : ℕ) → read_text s (at + 1) 255 ≡ Text name middle
-      → (v : TextRead) → v ≡ read_text s middle 2047 → IfField s at (read_field s at)
-  if-value name middle e (TextRefused number) f =
-      rw (value-refused s at h k _ refl name middle e _ f number refl) (text-number s middle 2047 number (sym f))
-  if-value name middle e (Text value next) f =
+  if-value : (name : TextPlace) (middle : ℕ) → read_text s (at + 1) 255 ≡ Ok (name, middle)
+      → (v : Read TextPlace) → v ≡ read_text s middle 2047 → IfField s at (read_field s at)
+  if-value name middle e (Err why) f =
+      rw (value-refused s at h k _ refl name middle e _ f why refl) (text-number s middle 2047 why (sym f))
+  if-value name middle e (Ok (value, next)) f =
       rw (field_found s at h k _ refl name middle e _ f value next refl)
       (record { inside = h; flag-there = refl; flag_bit = k; middle = middle; name-read = e; value_read = sym f })
 
-  if-name : (n : TextRead) → n ≡ read_text s (at + 1) 255 → IfField s at (read_field s at)
-  if-name (TextRefused number) e = rw (name-refused s at h k _ e number refl) (text-number s (at + 1) 255 number (sym e))
-  if-name (Text name middle) e = if-value name middle (sym e) _ refl
+  if-name : (n : Read TextPlace) → n ≡ read_text s (at + 1) 255 → IfField s at (read_field s at)
+  if-name (Err why) e = rw (name-refused s at h k _ e why refl) (text-number s (at + 1) 255 why (sym e))
+  if-name (Ok (name, middle)) e = if-value name middle (sym e) _ refl
 
 if-field : (s : List ℕ) (at : ℕ) → IfField s at (read_field s at)
 if-field s at =
@@ -132,8 +121,8 @@ if-field s at =
     (λ k. if-name s at h k _ refl))
     (λ h. rw (field-none s at h) (inr refl))
 
-pub field-inverse : (s : List ℕ) (at : ℕ) (p : FieldPlace) (next : ℕ) → read_field s at ≡ Found p next → Parts s at p next
+pub field-inverse : (s : List ℕ) (at : ℕ) (p : FieldPlace) (next : ℕ) → read_field s at ≡ Ok (p, next) → Parts s at p next
 field-inverse s at p next e = subst (IfField s at) e (if-field s at)
 
-pub field-number : (s : List ℕ) (at number : ℕ) → read_field s at ≡ Refused number → RefusalNumber number
-field-number s at number e = subst (IfField s at) e (if-field s at)
+pub field-number : (s : List ℕ) (at : ℕ) (why : Refusal) → read_field s at ≡ Err why → RefusalNumber why
+field-number s at why e = subst (IfField s at) e (if-field s at)

@@ -13,12 +13,12 @@ use Rattle.memory.proofs.Places.{has_left, has_right, has_join, has_all, has_one
 use Rattle.fields.specs.Form.{Field, field_form, list_form, AllFine}
 use Rattle.fields.specs.Reading.{read_field, field_of, fields_from, read_field_list, FieldListRead.list, FieldListRead.refused}
 use Rattle.fields.specs.declared.read.FieldPlace.{FieldPlace}
-use Rattle.fields.specs.declared.read.FieldRead.{FieldRead}
-use Rattle.fields.specs.declared.read.FieldRead.TheVariants.{Found, Refused}
 use Rattle.fields.proofs.Bounds.{field-bounds}
 use Rattle.fields.proofs.Turns.{fields-done, fields-refused, fields-more}
 use Rattle.fields.proofs.Back.{field_back}
 use Rattle.fields.proofs.Forth.{field-forth, Stands}
+use Rattle.std.specs.Prelude.{Ok, Err}
+use Rattle.integers.specs.Answers.{Read}
 
 pub list_form-cons : (f : Field) (fs : List Field) → list_form (f ∷ fs) ≡ field_form f ++ list_form fs
 unfolding list_form
@@ -67,7 +67,7 @@ module _ (s : List ℕ) (small : Small s) (all : List Field) where
       let g : before ≡ all = cc in
       record { rest = []; whole = sym g ∙ sym (append-nil before); stands = (tt, omega arith); fine = tt }
 
-  rest_more : (at : ℕ) (before : List Field) (p : FieldPlace) (next : ℕ) → read_field s at ≡ Found p next
+  rest_more : (at : ℕ) (before : List Field) (p : FieldPlace) (next : ℕ) → read_field s at ≡ Ok (p, next)
       → Rest s next (before ++ (field_of s p ∷ [])) all → Rest s at before all
   unfolding list_form
   rest_more at before p next e r =
@@ -84,12 +84,12 @@ module _ (s : List ℕ) (small : Small s) (all : List Field) where
 
   rest-step : (f at : ℕ) (before : List Field) → at < length s → fields_from (suc f) s at before ≡ list all
       → ((at : ℕ) (before : List Field) → at ≤ length s → length s ≤ at + f → fields_from f s at before ≡ list all → Rest s at before all)
-      → length s ≤ at + suc f → (r : FieldRead) → r ≡ read_field s at → Rest s at before all
-  rest-step f at before h e ih k (Refused number) d =
-      let x : refused number ≡ list all = sym (fields-refused s at before h _ d (suc f) (omega arith) number refl) ∙ e in
+      → length s ≤ at + suc f → (r : Read FieldPlace) → r ≡ read_field s at → Rest s at before all
+  rest-step f at before h e ih k (Err why) d =
+      let x : refused why ≡ list all = sym (fields-refused s at before h _ d (suc f) (omega arith) why refl) ∙ e in
       let z : ◌≡◌ {A = ℕ} 0 1 = cc in
       absurd (omega arith)
-  rest-step f at before h e ih k (Found p next) d =
+  rest-step f at before h e ih k (Ok (p, next)) d =
       let b = field-bounds s at p next (sym d) in
       let x = rw sub-one at (fields-more s at before h _ d (suc f) (omega arith) p next refl) in
       rest_more at before p next (sym d) (ih next (before ++ (field_of s p ∷ [])) b.inside (omega arith) (sym x ∙ e))

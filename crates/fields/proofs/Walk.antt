@@ -11,26 +11,27 @@ use Rattle.memory.proofs.Order.{split}
 use Rattle.fields.specs.Form.{Field}
 use Rattle.fields.specs.Reading.{read_field, field_of, fields_from, read_field_list, field_list_answer, FieldListRead, FieldListRead.list, FieldListRead.refused}
 use Rattle.fields.specs.declared.read.FieldPlace.{FieldPlace}
-use Rattle.fields.specs.declared.read.FieldRead.{FieldRead}
-use Rattle.fields.specs.declared.read.FieldRead.TheVariants.{Found, Refused}
 use Rattle.fields.proofs.Inverse.{RefusalNumber, field-number}
 use Rattle.fields.proofs.Bounds.{field-bounds}
 use Rattle.fields.proofs.Turns.{fields-done, fields-refused, fields-more}
+use Rattle.std.specs.Prelude.{Ok, Err}
+use Rattle.integers.specs.Answers.{Read}
+use Rattle.integers.specs.declared.answer.Refusal.{Refusal}
 
 -- fields put in front of what is read
 abbrev pub after : List Field → FieldListRead → FieldListRead
 after before (list fs) = list (before ++ fs)
-after before (refused number) = refused number
+after before (refused why) = refused why
 
 module _ (s : List ℕ) where
   -- ---- enough turns
 
   enough-step : (f g at : ℕ) (before : List Field) → length s ≤ at + suc f → length s ≤ at + g → at < length s
       → ((g at : ℕ) (before : List Field) → length s ≤ at + f → length s ≤ at + g → fields_from f s at before ≡ fields_from g s at before)
-      → (r : FieldRead) → r ≡ read_field s at → fields_from (suc f) s at before ≡ fields_from g s at before
-  enough-step f g at before h k l ih (Refused number) e =
-      fields-refused s at before l _ e (suc f) (omega arith) number refl ∙ sym (fields-refused s at before l _ e g (omega arith) number refl)
-  enough-step f g at before h k l ih (Found p next) e =
+      → (r : Read FieldPlace) → r ≡ read_field s at → fields_from (suc f) s at before ≡ fields_from g s at before
+  enough-step f g at before h k l ih (Err why) e =
+      fields-refused s at before l _ e (suc f) (omega arith) why refl ∙ sym (fields-refused s at before l _ e g (omega arith) why refl)
+  enough-step f g at before h k l ih (Ok (p, next)) e =
       let b = field-bounds s at p next (sym e) in
       rw sub-one at (fields-more s at before l _ e (suc f) (omega arith) p next refl)
       ∙ ih (g - 1) next (before ++ (field_of s p ∷ [])) (omega arith) (omega arith)
@@ -47,11 +48,11 @@ module _ (s : List ℕ) where
 
   before-step : (f at : ℕ) (xs ys : List Field) → at < length s
       → ((at : ℕ) (xs ys : List Field) → fields_from f s at (xs ++ ys) ≡ after xs (fields_from f s at ys))
-      → (r : FieldRead) → r ≡ read_field s at → fields_from (suc f) s at (xs ++ ys) ≡ after xs (fields_from (suc f) s at ys)
-  before-step f at xs ys l ih (Refused number) e =
-      fields-refused s at (xs ++ ys) l _ e (suc f) (omega arith) number refl
-      ∙ sym (ap (after xs) (fields-refused s at ys l _ e (suc f) (omega arith) number refl))
-  before-step f at xs ys l ih (Found p next) e =
+      → (r : Read FieldPlace) → r ≡ read_field s at → fields_from (suc f) s at (xs ++ ys) ≡ after xs (fields_from (suc f) s at ys)
+  before-step f at xs ys l ih (Err why) e =
+      fields-refused s at (xs ++ ys) l _ e (suc f) (omega arith) why refl
+      ∙ sym (ap (after xs) (fields-refused s at ys l _ e (suc f) (omega arith) why refl))
+  before-step f at xs ys l ih (Ok (p, next)) e =
       let x : List Field = field_of s p ∷ [] in
       rw sub-one at (fields-more s at (xs ++ ys) l _ e (suc f) (omega arith) p next refl)
       ∙ ap (fields_from f s next) (append_assoc xs ys x)
@@ -66,17 +67,17 @@ module _ (s : List ℕ) where
       (λ l. before-step f at xs ys l (λ at xs ys. before-apart f at xs ys) (read_field s at) refl)
       (λ l. fields-done s at (xs ++ ys) (suc f) l ∙ sym (ap (after xs) (fields-done s at ys (suc f) l)))
 
-  -- ---- the number of a refusal
+  -- ---- the why of a refusal
 
   abbrev IfRefused : FieldListRead → Type 0
   IfRefused (list fs) = Unit {0}
-  IfRefused (refused number) = RefusalNumber number
+  IfRefused (refused why) = RefusalNumber why
 
   number_step : (f at : ℕ) (before : List Field) → at < length s → ((at : ℕ) (before : List Field) → IfRefused (fields_from f s at before))
-      → (r : FieldRead) → r ≡ read_field s at → IfRefused (fields_from (suc f) s at before)
-  number_step f at before l ih (Refused number) e =
-      rw (fields-refused s at before l _ e (suc f) (omega arith) number refl) (field-number s at number (sym e))
-  number_step f at before l ih (Found p next) e =
+      → (r : Read FieldPlace) → r ≡ read_field s at → IfRefused (fields_from (suc f) s at before)
+  number_step f at before l ih (Err why) e =
+      rw (fields-refused s at before l _ e (suc f) (omega arith) why refl) (field-number s at why (sym e))
+  number_step f at before l ih (Ok (p, next)) e =
       rw (fields-more s at before l _ e (suc f) (omega arith) p next refl, sub-one) (ih next (before ++ (field_of s p ∷ [])))
 
   if-refused : (f at : ℕ) (before : List Field) → IfRefused (fields_from f s at before)
@@ -87,14 +88,14 @@ module _ (s : List ℕ) where
       (λ l. number_step f at before l (λ at before. if-refused f at before) (read_field s at) refl)
       (λ l. rw (fields-done s at before (suc f) l) tt)
 
-  pub list-number : (f at : ℕ) (before : List Field) (number : ℕ) → fields_from f s at before ≡ refused number → RefusalNumber number
-  list-number f at before number e = subst IfRefused e (if-refused f at before)
+  pub list-number : (f at : ℕ) (before : List Field) (why : Refusal) → fields_from f s at before ≡ refused why → RefusalNumber why
+  list-number f at before why e = subst IfRefused e (if-refused f at before)
 
   -- the answer 0 is that of a list
   zero-list : (r : FieldListRead) → r ≡ read_field_list s → (field_list_answer r).number ≡ 0 → (fs : List Field) × (read_field_list s ≡ list fs)
   zero-list (list fs) e z = (fs, sym e)
-  zero-list (refused number) e z =
-      ⊎_elim (λ d. absurd (omega arith)) (λ d. absurd (omega arith)) (list-number (length s) 0 [] number (sym e))
+  zero-list (refused why) e z =
+      ⊎_elim (λ d. absurd (omega arith)) (λ d. absurd (omega arith)) (list-number (length s) 0 [] why (sym e))
 
   pub checked : (field_list_answer (read_field_list s)).number ≡ 0 → (fs : List Field) × (read_field_list s ≡ list fs)
   checked z = zero-list (read_field_list s) refl z
@@ -107,15 +108,15 @@ module _ (s : List ℕ) where
         let x : list [] ≡ list fs = sym (fields-done s at [] f h) ∙ e in
         cc
 
-    module _ (h : at < length s) (l : length s ≤ at + f) (r : FieldRead) (d : r ≡ read_field s at) where
+    module _ (h : at < length s) (l : length s ≤ at + f) (r : Read FieldPlace) (d : r ≡ read_field s at) where
       -- no field of it is refused
-      pub walk_refused : (number : ℕ) → r ≡ Refused number → ⊥
-      walk_refused number k =
-          let x : refused number ≡ list fs = sym (fields-refused s at [] h r d f (omega arith) number k) ∙ e in
+      pub walk_refused : (why : Refusal) → r ≡ Err why → ⊥
+      walk_refused why k =
+          let x : refused why ≡ list fs = sym (fields-refused s at [] h r d f (omega arith) why k) ∙ e in
           let z : ◌≡◌ {A = ℕ} 0 1 = cc in
           omega arith
 
-      pub walk_more : (p : FieldPlace) (next : ℕ) → r ≡ Found p next
+      pub walk_more : (p : FieldPlace) (next : ℕ) → r ≡ Ok (p, next)
           → (rest : List Field) × (fs ≡ field_of s p ∷ rest) × (fields_from (f - 1) s next [] ≡ list rest)
       walk_more p next k = go (fields_from (f - 1) s next []) refl
         where
@@ -131,7 +132,7 @@ module _ (s : List ℕ) where
               let y : list (field_of s p ∷ rest) ≡ list fs = ap (after (field_of s p ∷ [])) g ∙ whole in
               let z : field_of s p ∷ rest ≡ fs = cc in
               (rest, sym z, sym g)
-          go (refused number) g =
-              let y : refused number ≡ list fs = ap (after (field_of s p ∷ [])) g ∙ whole in
+          go (refused why) g =
+              let y : refused why ≡ list fs = ap (after (field_of s p ∷ [])) g ∙ whole in
               let z : ◌≡◌ {A = ℕ} 0 1 = cc in
               absurd (omega arith)

@@ -6,45 +6,30 @@ use native.Mathlib.Omega.{arith}
 use native.Mathlib.Numerals.{sub-one}
 use mathlib.Core.List.{List, [], ◌∷◌, ◌++◌, append-nil}
 use lib.ListN.{length, get_or}
+use lib.Dec.{ltb}
 use lib.Seq.{append_snoc}
-use borrow.Author.Tests.{lt-ltb, le-ltb}
+use borrow.Author.Tests.{lt-ltb, le-ltb, ltb-true, ltb-false}
 use Rattle.memory.specs.Bytes.{Small}
-use Rattle.memory.proofs.Order.{split}
+use Rattle.memory.proofs.Order.{split, pick-both, need-both}
 use Rattle.integers.specs.Integer.{read_int}
 use Rattle.wire.specs.Text.{read_string}
 use Rattle.wire.specs.Name.{read_name}
 use Rattle.wire.proofs.TextBounds.{string-bytes-small}
-use Rattle.integers.specs.declared.integer.IntRead.{IntRead}
-use Rattle.integers.specs.declared.integer.IntRead.TheVariants.{Value, Refused as IntRefused}
-use Rattle.wire.specs.declared.text.StringRead.{StringRead}
-use Rattle.wire.specs.declared.text.StringRead.TheVariants.{Found as StringFound, Refused as StringRefused}
-use Rattle.wire.specs.declared.name.NamePlace.{NamePlace}
-use Rattle.wire.specs.declared.name.NameRead.{NameRead}
-use Rattle.wire.specs.declared.name.NameRead.TheVariants.{Found as NameFound, Refused as NameRefused}
 use Rattle.blocks.specs.Representation.{Representation}
 use Rattle.blocks.specs.Reading.{flag_of, representation_of, read_indexed, read_literal, read_representation, BlockRead, block, refused, block_from, read_block}
 use Rattle.blocks.specs.declared.read.RepresentationPlace.{RepresentationPlace}
 use Rattle.blocks.specs.declared.read.RepresentationPlace.TheVariants.{Indexed, Literal}
-use Rattle.blocks.specs.declared.read.RepresentationRead.{RepresentationRead}
-use Rattle.blocks.specs.declared.read.RepresentationRead.TheVariants.{Found, Refused}
-use Rattle.blocks.proofs.Equations.{
-  flag-low,
-  flag-high,
-  indexed-refused,
-  indexed-zero,
-  indexed-found,
-  literal-name-refused,
-  literal-value-refused,
-  literal-found,
-  representation-truncated,
-  representation-literal,
-  representation-indexed,
-}
+use Rattle.blocks.proofs.Equations.{flag-low, flag-high}
 use Rattle.blocks.proofs.Bounds.{representation-good}
 use Rattle.blocks.proofs.Turns.{block-done, block_refused, block_more, block-long, block-whole}
+use Rattle.integers.proofs.Told.{Told}
+use Rattle.forms.proofs.Found.{Found, found-each, found-on-read, found-on-int}
 use Rattle.forms.specs.Forms.{representation_form, block_form}
 use Rattle.forms.specs.Packed.{packed_representation, packed_from, FitRepresentation, FitBlock}
 use Rattle.forms.proofs.Stands.{Stands, stands-join, int-there, string-stands, name-stands, name-fits}
+use Rattle.std.specs.Prelude.{Ok, Err}
+use Rattle.integers.specs.declared.answer.Refusal.TheVariants.{NotAllowed, TooLong, Truncated}
+use Rattle.integers.specs.Answers.{Read}
 
 -- the N bit of a literal's first byte is what stands above its name's index
 pub flag-top : (b : ℕ) → b < 128 → b / 2 ^ 6 * 2 ^ 6 ≡ flag_of b * 64
@@ -60,49 +45,43 @@ module _ (s : List ℕ) (at : ℕ) where
   packed-end zero h = refl
   packed-end (suc f) h = simp (le-ltb _ _ h)
 
-  pub packed-next : (f : ℕ) → at < length s → (p : RepresentationPlace) (next : ℕ) → read_representation s at ≡ Found p next
+  pub packed-next : (f : ℕ) → at < length s → (p : RepresentationPlace) (next : ℕ) → read_representation s at ≡ Ok (p, next)
       → packed_from (suc f) s at ≡ packed_representation p ∷ packed_from f s next
   unfolding packed_from
   packed-next f h p next e = simp (lt-ltb _ _ h, e)
 
 module _ (s : List ℕ) (small : Small s) where
   module _ (at : ℕ) where
-    abbrev RepresentationStands : RepresentationRead → Type 0
-    RepresentationStands (Found p next) = Stands s at (representation_form (packed_representation p) (representation_of s p)) next
-    RepresentationStands (Refused number) = Unit {0}
+    abbrev RepresentationStands : RepresentationPlace → ℕ → Type 0
+    RepresentationStands p next = Stands s at (representation_form (packed_representation p) (representation_of s p)) next
 
-    indexed-read : 128 ≤ get_or s at 0 → (r : IntRead) → r ≡ read_int 7 s at → RepresentationStands (read_indexed s at)
-    unfolding representation_form
-    indexed-read b (IntRefused number) e = rw (indexed-refused s at _ e number refl) tt
-    indexed-read b (Value n next) e =
-        split 0 n.value
-        (λ l. rw (indexed-found s at _ e n next refl (λ z. omega arith)) (int-there s small 7 at 128 (omega (arith, small at)) n next e))
-        (λ l. rw (indexed-zero s at _ e n next refl (omega arith)) tt)
+    indexed-read : 128 ≤ get_or s at 0 → Told (Found RepresentationStands) (read_indexed s at)
+    unfolding read_indexed representation_form
+    indexed-read b =
+        found-on-int RepresentationStands (read_int 7 s at) (λ v next e.
+        need-both (Told (Found RepresentationStands)) (ltb 0 v) (Err NotAllowed) _ (λ d. record { told = tt })
+        (λ d. record { told = int-there s small 7 at 128 (omega (arith, small at)) (record { value = v }) next (sym e) }))
 
-    value_read : get_or s at 0 < 128 → (name : NamePlace) (next : ℕ) → NameFound name next ≡ read_name 6 s at → (t : StringRead) → t ≡ read_string s next 2047
-        → RepresentationStands (read_literal s at)
-    unfolding representation_form
-    value_read b name next e (StringRefused number) f = rw (literal-value-refused s at _ e name next refl _ f number refl) tt
-    value_read b name next e (StringFound value after) f =
-        rw (literal-found s at _ e name next refl _ f value after refl)
-        (stands-join (name-stands s small 6 at (flag_of (get_or s at 0) * 64) (flag-top (get_or s at 0) b) name next (sym e))
-        (string-stands s small next 2047 value after (sym f)))
+    literal-read : get_or s at 0 < 128 → Told (Found RepresentationStands) (read_literal s at)
+    unfolding read_literal representation_form
+    literal-read b =
+        found-on-read RepresentationStands (read_name 6 s at) (λ name next e.
+        found-on-read RepresentationStands (read_string s next 2047) (λ value after f.
+        record {
+          told = stands-join (name-stands s small 6 at (flag_of (get_or s at 0) * 64) (flag-top (get_or s at 0) b) name next e)
+              (string-stands s small next 2047 value after f);
+        }))
 
-    literal-read : get_or s at 0 < 128 → (r : NameRead) → r ≡ read_name 6 s at → RepresentationStands (read_literal s at)
-    literal-read b (NameRefused number) e = rw (literal-name-refused s at _ e number refl) tt
-    literal-read b (NameFound name next) e = value_read b name next e (read_string s next 2047) refl
-
-    representation-read : RepresentationStands (read_representation s at)
+    representation-read : Told (Found RepresentationStands) (read_representation s at)
+    unfolding read_representation
     representation-read =
-        split at (length s)
-        (λ l. split (get_or s at 0) 128
-        (λ k. rw (representation-literal s at l k) (literal-read k (read_name 6 s at) refl))
-        (λ k. rw (representation-indexed s at l k) (indexed-read k (read_int 7 s at) refl)))
-        (λ l. rw (representation-truncated s at l) tt)
+        need-both (Told (Found RepresentationStands)) (ltb at (length s)) (Err Truncated) _ (λ d. record { told = tt })
+        (λ d. pick-both (Told (Found RepresentationStands)) (ltb (get_or s at 0) 128) (read_literal s at) (read_indexed s at)
+        (λ e. literal-read (ltb-true _ _ e)) (λ e. indexed-read (ltb-false _ _ e)))
 
-    pub representation-stands : (p : RepresentationPlace) (next : ℕ) → read_representation s at ≡ Found p next
+    pub representation-stands : (p : RepresentationPlace) (next : ℕ) → read_representation s at ≡ Ok (p, next)
         → Stands s at (representation_form (packed_representation p) (representation_of s p)) next
-    representation-stands p next e = subst RepresentationStands e representation-read
+    representation-stands = found-each RepresentationStands (read_representation s at) representation-read
 
   representation-fits : (p : RepresentationPlace) → FitRepresentation (packed_representation p) (representation_of s p)
   representation-fits (Indexed i) = refl
@@ -117,7 +96,7 @@ module _ (s : List ℕ) (small : Small s) where
 
   abbrev OfBlock : ℕ → ℕ → List Representation → BlockRead → Type 0
   OfBlock f at before (block all) = Rest f at before all
-  OfBlock f at before (refused number) = Unit {0}
+  OfBlock f at before (refused why) = Unit {0}
 
   no_more : (f at : ℕ) (before : List Representation) → at ≡ length s → Rest f at before before
   unfolding block_form
@@ -129,12 +108,12 @@ module _ (s : List ℕ) (small : Small s) where
         stands = rw (packed-end s at f (omega arith)) (record { there = tt; ends = omega arith });
       }
 
-  one_more_lem : (f at : ℕ) (before : List Representation) → at < length s → (r : RepresentationRead) → r ≡ read_representation s at
+  one_more_lem : (f at : ℕ) (before : List Representation) → at < length s → (r : Read RepresentationPlace) → r ≡ read_representation s at
       → ((at : ℕ) (before : List Representation) → at ≤ length s → length s ≤ at + f → OfBlock f at before (block_from f s at before))
       → length s ≤ at + suc f → OfBlock (suc f) at before (block_from (suc f) s at before)
   unfolding block_form
-  one_more_lem f at before h (Refused number) e ih l = rw (block_refused s at before h _ e (suc f) (omega arith) number refl) tt
-  one_more_lem f at before h (Found p next) e ih l =
+  one_more_lem f at before h (Err why) e ih l = rw (block_refused s at before h _ e (suc f) (omega arith) why refl) tt
+  one_more_lem f at before h (Ok (p, next)) e ih l =
       let g = representation-good s at p next (sym e) in
       rw (block_more s at before h _ e (suc f) (omega arith) p next refl, sub-one)
       (grow (block_from f s next before') (ih next before' g.inside (omega (arith, g.past))))
@@ -143,7 +122,7 @@ module _ (s : List ℕ) (small : Small s) where
       before' = before ++ (representation_of s p ∷ [])
 
       grow : (b : BlockRead) → OfBlock f next before' b → OfBlock (suc f) at before b
-      grow (refused number) t = tt
+      grow (refused why) t = tt
       grow (block all) t =
           record {
             rest = representation_of s p ∷ t.rest;
@@ -167,5 +146,5 @@ module _ (s : List ℕ) (small : Small s) where
       (λ h. let t = subst (OfBlock (length s) 0 []) (sym (block-whole s h) ∙ e) (from-read (length s) 0 [] (omega arith) (omega arith)) in
       rw t.whole (t.fits, t.stands))
     where
-      other : refused 13 ≡ block rs → ⊥
+      other : refused TooLong ≡ block rs → ⊥
       other d = let z : ◌≡◌ {A = ℕ} 0 1 = cc in omega arith

@@ -16,14 +16,13 @@ use Rattle.huffman.proofs.Packs.{packed_size-most, small-pack}
 use Rattle.wire.specs.Text.{read_string, string_bytes}
 use Rattle.wire.specs.Name.{Name, FineName, name_of, read_name}
 use Rattle.wire.specs.declared.text.StringPlace.{StringPlace}
-use Rattle.wire.specs.declared.text.StringRead.TheVariants.{Found}
 use Rattle.wire.specs.declared.name.NamePlace.{NamePlace}
 use Rattle.wire.specs.declared.name.NamePlace.TheVariants.{Index, Text}
-use Rattle.wire.specs.declared.name.NameRead.TheVariants.{Found as NameFound}
 use Rattle.wire.proofs.Strings.{name_index, name-text}
 use Rattle.wire.proofs.TextBack.{plain_back, packed-back}
 use Rattle.forms.specs.Forms.{string_form, name_form}
 use Rattle.forms.specs.Packed.{packed_name, FitName}
+use Rattle.std.specs.Prelude.{Ok}
 
 pub string-small : (packed : Bool) (xs : List ℕ) → length xs ≤ 2047 → Small xs → Small (string_form packed xs)
 unfolding string_form
@@ -40,13 +39,13 @@ name-small k top packed (Name.literal xs) h f b =
 
 module _ (s : List ℕ) where
   pub string-back : (packed : Bool) (at limit : ℕ) (xs : List ℕ) → length xs ≤ limit → length xs ≤ 2047 → Small xs → Has s at (string_form packed xs)
-      → (p : StringPlace) × (read_string s at limit ≡ Found p (at + length (string_form packed xs))) × (string_bytes s p ≡ xs) × (p.packed ≡ packed)
+      → (p : StringPlace) × (read_string s at limit ≡ Ok (p, at + length (string_form packed xs))) × (string_bytes s p ≡ xs) × (p.packed ≡ packed)
   unfolding string_form
   string-back true at limit xs h k b p = let r = packed-back s at limit xs h k b p in (r.0, r.1, r.2, r.4)
   string-back false at limit xs h k b p = let r = plain_back s at limit xs h k p in (r.0, r.1, r.2, r.4)
 
   pub name_back : (packed : Bool) (k at t : ℕ) (n : Name) → FineName n → FitName packed n → Has s at (name_form k (t * 2 ^ k) packed n)
-      → (p : NamePlace) × (read_name k s at ≡ NameFound p (at + length (name_form k (t * 2 ^ k) packed n))) × (name_of s p ≡ n) × (packed_name p ≡ packed)
+      → (p : NamePlace) × (read_name k s at ≡ Ok (p, at + length (name_form k (t * 2 ^ k) packed n))) × (name_of s p ≡ n) × (packed_name p ≡ packed)
   unfolding name_form
   name_back packed k at t (Name.indexed i) f b p = (
     Index (record { value = i }),
@@ -60,7 +59,7 @@ module _ (s : List ℕ) where
       let e = int-back s k at t 0 (omega arith) (has_left s at head rest p) in
       let r = string-back packed (at + length head) 255 xs f (omega (arith, f)) b (has_right s at head rest p) in (
         Text r.0,
-        name-text k s at _ refl (record { value = 0 }) _ e refl _ refl r.0 _ r.1 ∙ ap (NameFound (Text r.0)) (omega (arith, length-append head rest)),
+        name-text k s at _ refl (record { value = 0 }) _ e refl _ refl r.0 _ r.1 ∙ ap (λ (next : ℕ). Ok (Text r.0, next)) (omega (arith, length-append head rest)),
         ap Name.literal r.2,
         r.3,
       )

@@ -1,140 +1,102 @@
 -- An instruction that was read stands in the bytes as the writer that is told which strings to pack writes it.
 -- By cases along the equations of the readers, and the laws of its parts.
-use mathlib.Core.Path.{◌≡◌, refl, sym, subst}
+use mathlib.Core.Path.{◌≡◌, sym}
 use Prim.Native.Nat.{ℕ, ◌*◌, ◌/◌, ◌^◌, ◌<◌, ◌≤◌}
 use native.Mathlib.Omega.{arith}
 use mathlib.Core.List.{List}
 use lib.ListN.{length, get_or}
 use Rattle.memory.specs.Bytes.{Small}
-use Rattle.memory.proofs.Order.{split}
+use Rattle.memory.proofs.Order.{split, need-both}
+use Rattle.integers.proofs.Told.{Told}
+use lib.Dec.{leb}
+use Rattle.forms.proofs.Found.{Found, found-each, found-on-read, found-on-int}
+use Rattle.integers.specs.declared.answer.Refusal.TheVariants.{NotAllowed}
 use Rattle.integers.specs.Integer.{read_int, int_wire}
 use Rattle.wire.specs.Text.{read_string}
 use Rattle.wire.specs.Name.{read_name}
 use Rattle.stream_lists.specs.StreamList.{read_list}
 use Rattle.integers.specs.declared.number.TableIndex.{TableIndex}
-use Rattle.integers.specs.declared.integer.IntRead.{IntRead}
-use Rattle.integers.specs.declared.integer.IntRead.TheVariants.{Value, Refused as IntRefused}
-use Rattle.wire.specs.declared.text.StringRead.{StringRead}
-use Rattle.wire.specs.declared.text.StringRead.TheVariants.{Found as StringFound, Refused as StringRefused}
-use Rattle.wire.specs.declared.name.NameRead.{NameRead}
-use Rattle.wire.specs.declared.name.NameRead.TheVariants.{Found as NameFound, Refused as NameRefused}
-use Rattle.stream_lists.specs.declared.stream_list.ListRead.{ListRead}
-use Rattle.stream_lists.specs.declared.stream_list.ListRead.TheVariants.{Found as ListFound, Refused as ListRefused}
 use Rattle.instructions.specs.Reading.{read_index, read_insert, read_delete, read_acknowledgement, read_for_decoder, read_for_encoder, instruction_of}
-use Rattle.instructions.specs.declared.read.IndexRead.{IndexRead}
-use Rattle.instructions.specs.declared.read.IndexRead.TheVariants.{Index, Refused as IndexRefused}
 use Rattle.instructions.specs.declared.read.InstructionPlace.{InstructionPlace}
-use Rattle.instructions.specs.declared.read.InstructionRead.{InstructionRead}
-use Rattle.instructions.specs.declared.read.InstructionRead.TheVariants.{Found, Refused}
-use Rattle.instructions.proofs.Equations.{
-  index-refused,
-  index-low,
-  index-found,
-  insert-refused,
-  insert-name-refused,
-  insert-value-refused,
-  insert-found,
-  delete-refused,
-  delete-nontrailer-refused,
-  delete-trailer-refused,
-  delete-found,
-  acknowledgement-refused,
-  acknowledgement-found,
-  decoder-empty,
-  decoder-insert,
-  decoder-acknowledgement,
-  decoder-delete,
-  encoder-empty,
-  encoder-insert,
-  encoder-delete,
-  encoder-acknowledgement,
-}
+use Rattle.instructions.proofs.Equations.{decoder-empty, decoder-insert, decoder-acknowledgement, decoder-delete, encoder-empty, encoder-insert, encoder-delete, encoder-acknowledgement}
 use Rattle.forms.specs.Forms.{instruction_form}
 use Rattle.forms.specs.Packed.{packed_instruction}
 use Rattle.forms.proofs.Stands.{Stands, stands-join, int-there, string-stands, name-stands}
 use Rattle.forms.proofs.Lists.{list-stands}
+use Rattle.std.specs.Prelude.{Ok, Err}
+use Rattle.integers.specs.Answers.{Read}
 
 module _ (s : List ℕ) (small : Small s) where
   module _ (k top : ℕ) (t : get_or s 0 0 / 2 ^ k * 2 ^ k ≡ top) where
-    abbrev IndexStands : IndexRead → Type 0
-    IndexStands (Index i next) = Stands s 0 (int_wire k top i.value) next
-    IndexStands (IndexRefused number) = Unit {0}
+    abbrev IndexStands : TableIndex → ℕ → Type 0
+    IndexStands i next = Stands s 0 (int_wire k top i.value) next
 
-    index_read : (r : IntRead) → r ≡ read_int k s 0 → IndexStands (read_index k s)
-    index_read (IntRefused number) e = rw (index-refused k s _ e number refl) tt
-    index_read (Value n next) e =
-        split n.value 62
-        (λ l. rw (index-low k s _ e n next refl l) tt)
-        (λ l. rw (index-found k s _ e n next refl l) (int-there s small k 0 top t n next e))
+    index_read : Told (Found IndexStands) (read_index k s)
+    unfolding read_index
+    index_read =
+        found-on-int IndexStands (read_int k s 0) (λ v next e.
+        need-both (Told (Found IndexStands)) (leb 62 v) (Err NotAllowed) _ (λ d. record { told = tt })
+        (λ d. record { told = int-there s small k 0 top t (record { value = v }) next (sym e) }))
 
-    index-stands : (i : TableIndex) (next : ℕ) → read_index k s ≡ Index i next → Stands s 0 (int_wire k top i.value) next
-    index-stands i next e = subst IndexStands e (index_read (read_int k s 0) refl)
+    index-stands : (i : TableIndex) (next : ℕ) → read_index k s ≡ Ok (i, next) → Stands s 0 (int_wire k top i.value) next
+    index-stands = found-each IndexStands (read_index k s) index_read
 
-  abbrev InstructionStands : InstructionRead → Type 0
-  InstructionStands (Found p taken) = Stands s 0 (instruction_form (packed_instruction p) (instruction_of s p)) taken
-  InstructionStands (Refused number) = Unit {0}
+  abbrev InstructionStands : InstructionPlace → ℕ → Type 0
+  InstructionStands p taken = Stands s 0 (instruction_form (packed_instruction p) (instruction_of s p)) taken
 
-  insert-read : 128 ≤ get_or s 0 0 → (r : IndexRead) → r ≡ read_index 7 s → InstructionStands (read_insert s)
-  unfolding instruction_form
-  insert-read b (IndexRefused number) e = rw (insert-refused s _ e number refl) tt
-  insert-read b (Index i next) e = names (read_name 8 s next) refl
-    where
-      names : (n : NameRead) → n ≡ read_name 8 s next → InstructionStands (read_insert s)
-      names (NameRefused number) f = rw (insert-name-refused s _ e i next refl _ f number refl) tt
-      names (NameFound name after) f = values (read_string s after 2047) refl
-        where
-          values : (v : StringRead) → v ≡ read_string s after 2047 → InstructionStands (read_insert s)
-          values (StringRefused number) h = rw (insert-value-refused s _ e i next refl _ f name after refl _ h number refl) tt
-          values (StringFound value taken) h =
-              rw (insert-found s _ e i next refl _ f name after refl _ h value taken refl)
-              (stands-join (index-stands 7 128 (omega (arith, small 0)) i next (sym e))
-              (stands-join (name-stands s small 8 next 0 (omega (arith, small next)) name after (sym f))
-              (string-stands s small after 2047 value taken (sym h))))
+  abbrev Standing : Read InstructionPlace → Type 0
+  Standing r = Told (Found InstructionStands) r
 
-  delete-read : get_or s 0 0 < 64 → (r : IndexRead) → r ≡ read_index 6 s → InstructionStands (read_delete s)
-  unfolding instruction_form
-  delete-read b (IndexRefused number) e = rw (delete-refused s _ e number refl) tt
-  delete-read b (Index i next) e = nontrailers (read_list s next) refl
-    where
-      nontrailers : (l : ListRead) → l ≡ read_list s next → InstructionStands (read_delete s)
-      nontrailers (ListRefused number) f = rw (delete-nontrailer-refused s _ e i next refl _ f number refl) tt
-      nontrailers (ListFound nontrailer after) f = trailers (read_list s after) refl
-        where
-          trailers : (m : ListRead) → m ≡ read_list s after → InstructionStands (read_delete s)
-          trailers (ListRefused number) h = rw (delete-trailer-refused s _ e i next refl _ f nontrailer after refl _ h number refl) tt
-          trailers (ListFound trailer taken) h =
-              rw (delete-found s _ e i next refl _ f nontrailer after refl _ h trailer taken refl)
-              (stands-join (index-stands 6 0 (omega arith) i next (sym e))
-              (stands-join (list-stands s small next nontrailer after (sym f)) (list-stands s small after trailer taken (sym h))))
+  insert-read : 128 ≤ get_or s 0 0 → Standing (read_insert s)
+  unfolding read_insert instruction_form
+  insert-read b =
+      found-on-read InstructionStands (read_index 7 s) (λ i next e.
+      found-on-read InstructionStands (read_name 8 s next) (λ name after f.
+      found-on-read InstructionStands (read_string s after 2047) (λ value taken h.
+      record {
+        told = stands-join (index-stands 7 128 (omega (arith, small 0)) i next e)
+            (stands-join (name-stands s small 8 next 0 (omega (arith, small next)) name after f) (string-stands s small after 2047 value taken h));
+      })))
 
-  acknowledgement-read : 64 ≤ get_or s 0 0 → get_or s 0 0 < 128 → (r : IndexRead) → r ≡ read_index 6 s → InstructionStands (read_acknowledgement s)
-  unfolding instruction_form
-  acknowledgement-read b c (IndexRefused number) e = rw (acknowledgement-refused s _ e number refl) tt
-  acknowledgement-read b c (Index i taken) e = rw (acknowledgement-found s _ e i taken refl) (index-stands 6 64 (omega arith) i taken (sym e))
+  delete-read : get_or s 0 0 < 64 → Standing (read_delete s)
+  unfolding read_delete instruction_form
+  delete-read b =
+      found-on-read InstructionStands (read_index 6 s) (λ i next e.
+      found-on-read InstructionStands (read_list s next) (λ nontrailer after f.
+      found-on-read InstructionStands (read_list s after) (λ trailer taken h.
+      record {
+        told = stands-join (index-stands 6 0 (omega arith) i next e)
+            (stands-join (list-stands s small next nontrailer after f) (list-stands s small after trailer taken h));
+      })))
 
-  decoder-read : InstructionStands (read_for_decoder s)
+  acknowledgement-read : 64 ≤ get_or s 0 0 → get_or s 0 0 < 128 → Standing (read_acknowledgement s)
+  unfolding read_acknowledgement instruction_form
+  acknowledgement-read b c =
+      found-on-read InstructionStands (read_index 6 s) (λ i taken e. record { told = index-stands 6 64 (omega arith) i taken e })
+
+  decoder-read : Standing (read_for_decoder s)
   decoder-read =
       split 0 (length s)
       (λ h. split (get_or s 0 0) 128
       (λ k. split (get_or s 0 0) 64
-      (λ l. rw (decoder-delete s h l) (delete-read l (read_index 6 s) refl))
-      (λ l. rw (decoder-acknowledgement s h k l) tt))
-      (λ k. rw (decoder-insert s h k) (insert-read k (read_index 7 s) refl)))
-      (λ h. rw (decoder-empty s h) tt)
+      (λ l. rw (decoder-delete s h l) (delete-read l))
+      (λ l. rw (decoder-acknowledgement s h k l) (record { told = tt })))
+      (λ k. rw (decoder-insert s h k) (insert-read k)))
+      (λ h. rw (decoder-empty s h) (record { told = tt }))
 
-  encoder-read : InstructionStands (read_for_encoder s)
+  encoder-read : Standing (read_for_encoder s)
   encoder-read =
       split 0 (length s)
       (λ h. split (get_or s 0 0) 128
       (λ k. split (get_or s 0 0) 64
-      (λ l. rw (encoder-delete s h l) tt)
-      (λ l. rw (encoder-acknowledgement s h k l) (acknowledgement-read l k (read_index 6 s) refl)))
-      (λ k. rw (encoder-insert s h k) tt))
-      (λ h. rw (encoder-empty s h) tt)
+      (λ l. rw (encoder-delete s h l) (record { told = tt }))
+      (λ l. rw (encoder-acknowledgement s h k l) (acknowledgement-read l k)))
+      (λ k. rw (encoder-insert s h k) (record { told = tt })))
+      (λ h. rw (encoder-empty s h) (record { told = tt }))
 
   module _ (p : InstructionPlace) (taken : ℕ) where
-    pub decoder-stands : read_for_decoder s ≡ Found p taken → Stands s 0 (instruction_form (packed_instruction p) (instruction_of s p)) taken
-    decoder-stands e = subst InstructionStands e decoder-read
+    pub decoder-stands : read_for_decoder s ≡ Ok (p, taken) → Stands s 0 (instruction_form (packed_instruction p) (instruction_of s p)) taken
+    decoder-stands = found-each InstructionStands (read_for_decoder s) decoder-read p taken
 
-    pub encoder-stands : read_for_encoder s ≡ Found p taken → Stands s 0 (instruction_form (packed_instruction p) (instruction_of s p)) taken
-    encoder-stands e = subst InstructionStands e encoder-read
+    pub encoder-stands : read_for_encoder s ≡ Ok (p, taken) → Stands s 0 (instruction_form (packed_instruction p) (instruction_of s p)) taken
+    encoder-stands = found-each InstructionStands (read_for_encoder s) encoder-read p taken

@@ -1,3 +1,4 @@
+pub mod Found
 pub mod Stands
 pub mod Lists
 pub mod InstructionStands

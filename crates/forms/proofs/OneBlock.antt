@@ -18,7 +18,6 @@ use Rattle.blocks.specs.Representation.{Representation, indexed, literal, FineRe
 use Rattle.blocks.specs.Reading.{flag_of, representation_of, read_representation, block, block_limit, block_from, read_block}
 use Rattle.blocks.specs.declared.read.RepresentationPlace.{RepresentationPlace}
 use Rattle.blocks.specs.declared.read.RepresentationPlace.TheVariants.{Indexed, Literal}
-use Rattle.blocks.specs.declared.read.RepresentationRead.TheVariants.{Found}
 use Rattle.blocks.proofs.Equations.{indexed-found, literal-found, representation-literal, representation-indexed}
 use Rattle.blocks.proofs.Bounds.{representation-good}
 use Rattle.blocks.proofs.Turns.{block-done, block_more, block-whole}
@@ -27,6 +26,7 @@ use Rattle.forms.specs.Packed.{packed_representation, packed_from, packed_block,
 use Rattle.forms.proofs.Stands.{stands-part}
 use Rattle.forms.proofs.BlockStands.{flag-top, packed-end, packed-next, block-stands}
 use Rattle.forms.proofs.FormBack.{string-small, string-back, name-small, name_back, name-first}
+use Rattle.std.specs.Prelude.{Ok}
 
 representation-small : (q : Packed) (r : Representation) → FineRepresentation r → FitRepresentation q r → Small (representation_form q r)
 unfolding representation_form
@@ -45,7 +45,7 @@ block-small (q ∷ qs) (r ∷ rs) b =
 module _ (s : List ℕ) where
   -- where the form of a representation stands, it is read, with these strings packed
   representation-back : (at : ℕ) (q : Packed) (r : Representation) → FineRepresentation r → FitRepresentation q r → Has s at (representation_form q r)
-      → (p : RepresentationPlace) × (read_representation s at ≡ Found p (at + length (representation_form q r)))
+      → (p : RepresentationPlace) × (read_representation s at ≡ Ok (p, at + length (representation_form q r)))
       × (representation_of s p ≡ r) × (packed_representation p ≡ q)
   unfolding representation_form
   representation-back at q (indexed i) h b p =

@@ -18,8 +18,6 @@ use Rattle.instructions.specs.Instruction.{Instruction, insert, delete, acknowle
 use Rattle.instructions.specs.Reading.{read_for_decoder, read_for_encoder, instruction_of}
 use Rattle.instructions.specs.declared.read.InstructionPlace.{InstructionPlace}
 use Rattle.instructions.specs.declared.read.InstructionPlace.TheVariants.{Insert, Delete, Acknowledge}
-use Rattle.instructions.specs.declared.read.InstructionRead.{InstructionRead}
-use Rattle.instructions.specs.declared.read.InstructionRead.TheVariants.{Found}
 use Rattle.instructions.proofs.Equations.{insert-found, decoder-insert}
 use Rattle.instructions.proofs.Lengths.{instruction-small}
 use Rattle.instructions.proofs.Back.{index_back, decoder-back, encoder-back}
@@ -29,12 +27,14 @@ use Rattle.forms.specs.Claim.{Alike}
 use Rattle.forms.proofs.Stands.{Stands, stands-part, name-fits}
 use Rattle.forms.proofs.InstructionStands.{decoder-stands, encoder-stands}
 use Rattle.forms.proofs.FormBack.{string-small, string-back, name-small, name_back}
+use Rattle.std.specs.Prelude.{Ok}
+use Rattle.integers.specs.Answers.{Read}
 
 -- of any reader that finds an instruction only where it stands in its form
-module _ (reader : List ℕ → InstructionRead)
-    (stands : (s : List ℕ) → Small s → (p : InstructionPlace) (taken : ℕ) → reader s ≡ Found p taken
+module _ (reader : List ℕ → Read InstructionPlace)
+    (stands : (s : List ℕ) → Small s → (p : InstructionPlace) (taken : ℕ) → reader s ≡ Ok (p, taken)
     → Stands s 0 (instruction_form (packed_instruction p) (instruction_of s p)) taken) where
-  taken-form : (s : List ℕ) → Small s → (p : InstructionPlace) (taken : ℕ) → reader s ≡ Found p taken
+  taken-form : (s : List ℕ) → Small s → (p : InstructionPlace) (taken : ℕ) → reader s ≡ Ok (p, taken)
       → part s 0 taken ≡ instruction_form (packed_instruction p) (instruction_of s p)
   taken-form s small p taken e = rw sub-zero at (stands-part (stands s small p taken e))
 

@@ -6,11 +6,11 @@ use Prim.Native.Nat.{ℕ, ◌+◌, ◌-◌, ◌*◌, ◌/◌, ◌^◌, ◌≤◌
 use native.Mathlib.Omega.{arith}
 use mathlib.Core.List.{List, ◌++◌}
 use lib.ListN.{length, get_or, length-append}
-use lib.Dec.{leb}
-use borrow.Author.Tests.{le-leb, lt-leb}
+use lib.Dec.{ltb, leb, eqb}
+use borrow.Author.Tests.{le-leb, lt-leb, leb-true, eqb-true}
 use Rattle.memory.specs.Choice.{pick}
 use Rattle.memory.specs.Bytes.{part, Has, Small}
-use Rattle.memory.proofs.Order.{split, either}
+use Rattle.memory.proofs.Order.{split, pick-both, need-both}
 use Rattle.memory.proofs.Overlay.{small-part}
 use Rattle.memory.proofs.Places.{has_join, has_part, part-has, length_part}
 use Rattle.integers.specs.Integer.{read_int, int_wire}
@@ -22,19 +22,16 @@ use Rattle.huffman.proofs.RoundTrip.{unpack-pack}
 use Rattle.wire.specs.Text.{text_at, size_limit, is_packed, read_string, string_after, string_end, string_bytes}
 use Rattle.wire.specs.Name.{read_name, name_of}
 use Rattle.wire.proofs.TextBounds.{string-bytes-small}
-use Rattle.wire.proofs.Strings.{string-short, string-refused, string-value, after-long, after-cut, after-end, end-long, end-bad, end-found, name-refused, name_index, name-text-refused, name-text}
 use Rattle.integers.specs.declared.integer.WireInt.{WireInt}
-use Rattle.integers.specs.declared.integer.IntRead.{IntRead}
-use Rattle.integers.specs.declared.integer.IntRead.TheVariants.{Value, Refused as IntRefused}
 use Rattle.wire.specs.declared.text.StringPlace.{StringPlace}
-use Rattle.wire.specs.declared.text.StringRead.{StringRead}
-use Rattle.wire.specs.declared.text.StringRead.TheVariants.{Found, Refused}
 use Rattle.wire.specs.declared.name.NamePlace.{NamePlace}
 use Rattle.wire.specs.declared.name.NamePlace.TheVariants.{Index, Text}
-use Rattle.wire.specs.declared.name.NameRead.{NameRead}
-use Rattle.wire.specs.declared.name.NameRead.TheVariants.{Found as NameFound, Refused as NameRefused}
+use Rattle.integers.proofs.Told.{Told}
+use Rattle.integers.specs.declared.answer.Refusal.TheVariants.{BadPacking, TooLong, Truncated}
+use Rattle.forms.proofs.Found.{Found, found-each, found-on-read, found-on-int}
 use Rattle.forms.specs.Forms.{string_form, name_form}
 use Rattle.forms.specs.Packed.{packed_name, FitName}
+use Rattle.std.specs.Prelude.{Ok, Err}
 
 -- these bytes stand at the place at, and end at the place next
 pub record Stands (s : List ℕ) (at : ℕ) (bytes : List ℕ) (next : ℕ) : Type 0 where
@@ -56,7 +53,7 @@ stands-part {s} {at} {next} {xs} p =
 
 module _ (s : List ℕ) (small : Small s) where
   -- a number, below the bits that stand above its prefix
-  pub int-there : (k at top : ℕ) → get_or s at 0 / 2 ^ k * 2 ^ k ≡ top → (n : WireInt) (next : ℕ) → Value n next ≡ read_int k s at
+  pub int-there : (k at top : ℕ) → get_or s at 0 / 2 ^ k * 2 ^ k ≡ top → (n : WireInt) (next : ℕ) → Ok (n, next) ≡ read_int k s at
       → Stands s at (int_wire k top n.value) next
   int-there k at top t n next e =
       let h = rw t at (int-stands s small k at n.value next (sym e)) in
@@ -75,11 +72,10 @@ module _ (s : List ℕ) (small : Small s) where
       rw (l, d) refl
   form-there false start n h w = rw (length_part s start n h) refl
 
-  abbrev StringStands : ℕ → StringRead → Type 0
-  StringStands at (Found p next) = Stands s at (string_form p.packed (string_bytes s p)) next
-  StringStands at (Refused number) = Unit {0}
-
   module _ (at limit : ℕ) where
+    abbrev StringStands : StringPlace → ℕ → Type 0
+    StringStands p next = Stands s at (string_form p.packed (string_bytes s p)) next
+
     module _ (packed : Bool) (n start : ℕ) (i : Stands s at (int_wire 7 (pick packed 128 0) n) start) where
       bytes-stand : start + n ≤ length s → (text_at packed s start n).whole ≡ true
           → Stands s at (string_form packed (text_at packed s start n).bytes) (start + n)
@@ -87,23 +83,19 @@ module _ (s : List ℕ) (small : Small s) where
           rw (form-there packed start n h w)
           (stands-join i (record { there = part-has s start n h; ends = omega (arith, length_part s start n h) }))
 
-      end-stands : start + n ≤ length s → StringStands at (string_end packed limit n start (text_at packed s start n))
-      unfolding string_bytes
+      end-stands : start + n ≤ length s → Told (Found StringStands) (string_end packed limit n start (text_at packed s start n))
+      unfolding string_end string_bytes
       end-stands h =
           let u : Unpacked = text_at packed s start n in
-          split limit (length u.bytes)
-          (λ l. rw (end-long packed limit n start u l) tt)
-          (λ l. either u.whole
-          (λ w. rw (end-found packed limit n start u l w) (bytes-stand h w))
-          (λ w. rw (end-bad packed limit n start u l w) tt))
+          need-both (Told (Found StringStands)) (leb (length u.bytes) limit) (Err TooLong) _ (λ e. record { told = tt })
+          (λ e. need-both (Told (Found StringStands)) u.whole (Err BadPacking) _ (λ w. record { told = tt }) (λ w. record { told = bytes-stand h w }))
 
-      after-stands : start ≤ length s → StringStands at (string_after packed s limit n start)
+      after-stands : start ≤ length s → Told (Found StringStands) (string_after packed s limit n start)
+      unfolding string_after
       after-stands k =
-          split (size_limit packed limit) n
-          (λ l. rw (after-long packed s limit n start l) tt)
-          (λ l. split (length s - start) n
-          (λ m. rw (after-cut packed s limit n start l m) tt)
-          (λ m. rw (after-end packed s limit n start l m) (end-stands (omega arith))))
+          need-both (Told (Found StringStands)) (leb n (size_limit packed limit)) (Err TooLong) _ (λ e. record { told = tt })
+          (λ e. need-both (Told (Found StringStands)) (leb n (length s - start)) (Err Truncated) _ (λ d. record { told = tt })
+          (λ d. end-stands (omega (arith, leb-true _ _ d))))
 
     -- the H bit is what stands above the length
     high_bit : (x : ℕ) → x < 256 → x / 2 ^ 7 * 2 ^ 7 ≡ pick (leb 128 x) 128 0
@@ -112,45 +104,34 @@ module _ (s : List ℕ) (small : Small s) where
         (λ l. rw (lt-leb 128 x l) (omega arith))
         (λ l. rw (le-leb 128 x l) (omega arith))
 
-    value-stands : at < length s → (r : IntRead) → r ≡ read_int 7 s at → StringStands at (read_string s at limit)
-    value-stands h (IntRefused number) e = rw (string-refused s at limit h _ e number refl) tt
-    value-stands h (Value n start) e =
-        let g = int-good 7 s at (omega arith) _ e n start refl in
-        rw (string-value s at limit h _ e n start refl)
-        (after-stands (is_packed s at) n.value start (int-there 7 at (pick (is_packed s at) 128 0) (high_bit (get_or s at 0) (small at)) n start e) g.1)
-
-    string-read : StringStands at (read_string s at limit)
+    string-read : Told (Found StringStands) (read_string s at limit)
+    unfolding read_string
     string-read =
-        split at (length s)
-        (λ l. value-stands l (read_int 7 s at) refl)
-        (λ l. rw (string-short s at limit l) tt)
+        need-both (Told (Found StringStands)) (ltb at (length s)) (Err Truncated) _ (λ e. record { told = tt })
+        (λ e. found-on-int StringStands (read_int 7 s at) (λ v start d.
+        let n : WireInt = record { value = v } in
+        let g = int-good 7 s at (omega arith) _ refl n start d in
+        after-stands (is_packed s at) v start (int-there 7 at (pick (is_packed s at) 128 0) (high_bit (get_or s at 0) (small at)) n start (sym d)) g.1))
 
-    pub string-stands : (p : StringPlace) (next : ℕ) → read_string s at limit ≡ Found p next → Stands s at (string_form p.packed (string_bytes s p)) next
-    string-stands p next e = subst (StringStands at) e string-read
+    pub string-stands : (p : StringPlace) (next : ℕ) → read_string s at limit ≡ Ok (p, next) → Stands s at (string_form p.packed (string_bytes s p)) next
+    string-stands = found-each StringStands (read_string s at limit) string-read
 
   module _ (k at top : ℕ) (t : get_or s at 0 / 2 ^ k * 2 ^ k ≡ top) where
-    abbrev NameStands : NameRead → Type 0
-    NameStands (NameFound p next) = Stands s at (name_form k top (packed_name p) (name_of s p)) next
-    NameStands (NameRefused number) = Unit {0}
+    abbrev NameStands : NamePlace → ℕ → Type 0
+    NameStands p next = Stands s at (name_form k top (packed_name p) (name_of s p)) next
 
-    text-stands : (n : WireInt) (next : ℕ) → Value n next ≡ read_int k s at → n.value ≡ 0 → (r : StringRead) → r ≡ read_string s next 255
-        → NameStands (read_name k s at)
-    unfolding name_form
-    text-stands n next e z (Refused number) f = rw (name-text-refused k s at _ e n next refl z _ f number refl) tt
-    text-stands n next e z (Found p after) f =
-        rw (name-text k s at _ e n next refl z _ f p after refl)
-        (stands-join (rw z at (int-there k at top t n next e)) (string-stands next 255 p after (sym f)))
+    name-read : Told (Found NameStands) (read_name k s at)
+    unfolding read_name name_form
+    name-read =
+        found-on-int NameStands (read_int k s at) (λ v next e.
+        let i : Stands s at (int_wire k top v) next = int-there k at top t (record { value = v }) next (sym e) in
+        pick-both (Told (Found NameStands)) (eqb v 0) _ _
+        (λ z. found-on-read NameStands (read_string s next 255) (λ p after f.
+        record { told = stands-join (rw (eqb-true v 0 z) at i) (string-stands next 255 p after f) }))
+        (λ z. record { told = i }))
 
-    name-read : (r : IntRead) → r ≡ read_int k s at → NameStands (read_name k s at)
-    unfolding name_form
-    name-read (IntRefused number) e = rw (name-refused k s at _ e number refl) tt
-    name-read (Value n next) e =
-        split 0 n.value
-        (λ l. rw (name_index k s at _ e n next refl (λ z. omega arith)) (int-there k at top t n next e))
-        (λ l. text-stands n next e (omega arith) (read_string s next 255) refl)
-
-    pub name-stands : (p : NamePlace) (next : ℕ) → read_name k s at ≡ NameFound p next → Stands s at (name_form k top (packed_name p) (name_of s p)) next
-    name-stands p next e = subst NameStands e (name-read (read_int k s at) refl)
+    pub name-stands : (p : NamePlace) (next : ℕ) → read_name k s at ≡ Ok (p, next) → Stands s at (name_form k top (packed_name p) (name_of s p)) next
+    name-stands = found-each NameStands (read_name k s at) name-read
 
   -- a string that was read is of bytes, and only a string is packed
   pub name-fits : (p : NamePlace) → FitName (packed_name p) (name_of s p)

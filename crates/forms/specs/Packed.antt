@@ -1,5 +1,5 @@
 -- Which strings of what was read are packed: those whose H bit is set. No string, none packed. And what an accepted form is.
-use Rattle.std.specs.Prelude.{◌≡◌, ℕ, zero, suc, Bool, false, List, [], ◌∷◌, length, ltb}
+use Rattle.std.specs.Prelude.{◌≡◌, ℕ, zero, suc, Bool, false, List, [], ◌∷◌, length, ltb, Ok}
 use Rattle.memory.specs.Choice.{pick}
 use Rattle.memory.specs.Bytes.{Small}
 use Rattle.wire.specs.Text.{packs}
@@ -8,15 +8,14 @@ use Rattle.wire.specs.declared.name.NamePlace.{NamePlace}
 use Rattle.wire.specs.declared.name.NamePlace.TheVariants.{Index, Text}
 use Rattle.instructions.specs.declared.read.InstructionPlace.{InstructionPlace}
 use Rattle.instructions.specs.declared.read.InstructionPlace.TheVariants.{Insert, Delete, Acknowledge}
-use Rattle.instructions.specs.declared.read.InstructionRead.{InstructionRead}
-use Rattle.instructions.specs.declared.read.InstructionRead.TheVariants.{Found}
 use Rattle.instructions.specs.Instruction.{Instruction, insert, delete, acknowledge}
 use Rattle.instructions.specs.Reading.{instruction_of}
 use Rattle.blocks.specs.Representation.{Representation, indexed, literal, FineRepresentation}
-use Rattle.blocks.specs.Reading.{on_representation, read_representation, block, read_block}
+use Rattle.blocks.specs.Reading.{read_representation, block, read_block}
 use Rattle.blocks.specs.declared.read.RepresentationPlace.{RepresentationPlace}
 use Rattle.blocks.specs.declared.read.RepresentationPlace.TheVariants.{Indexed, Literal}
 use Rattle.forms.specs.Forms.{Packed}
+use Rattle.integers.specs.Answers.{Read, on_read}
 
 abbrev pub none : Packed
 none = record { name = false; value = false }
@@ -39,7 +38,7 @@ unfoldable pub packed_from : ℕ → List ℕ → ℕ → List Packed
 packed_from zero s at = []
 packed_from (suc f) s at =
     pick (ltb at (length s))
-    (on_representation (λ number. []) (read_representation s at) (λ p next. packed_representation p ∷ packed_from f s next))
+    (on_read (λ why. []) (read_representation s at) (λ p next. packed_representation p ∷ packed_from f s next))
     []
 
 -- of a block's representations
@@ -68,10 +67,10 @@ our_block (r ∷ rs) = our_representation r ∷ our_block rs
 -- ---- accepted forms
 
 -- s is a form of the instruction i with these strings packed: bytes that the end's reader takes, all of them
-pub record AcceptedInstruction (reader : List ℕ → InstructionRead) (packed : Packed) (i : Instruction) (s : List ℕ) : Type 0 where
+pub record AcceptedInstruction (reader : List ℕ → Read InstructionPlace) (packed : Packed) (i : Instruction) (s : List ℕ) : Type 0 where
   pub bytes : Small s
   pub place : InstructionPlace
-  pub reads : reader s ≡ Found place (length s)
+  pub reads : reader s ≡ Ok (place, length s)
   pub says : instruction_of s place ≡ i
   pub packs : packed_instruction place ≡ packed
 

@@ -15,7 +15,8 @@ use Rattle.state.specs.Layout.{marks_place, nontrailer_list, trailer_list}
 use Rattle.state.specs.Front.{marks_of}
 use Rattle.state.specs.DecoderState.{list_at, delete_at}
 use Rattle.holds.specs.Hold.{named_marked, lowest_case, lowest_told}
-use Rattle.holds.specs.declared.hold.Lowest.{Lowest}
+use Rattle.integers.specs.declared.number.StreamNumber.{StreamNumber}
+use Rattle.std.specs.Prelude.{Option}
 use Rattle.holds.proofs.Telling.{told_back}
 
 -- ---- both kinds
@@ -111,7 +112,7 @@ module _ (m : List ℕ) (k at to : ℕ) (e : at ≡ nontrailer_list k) (f : to �
   unfolding delete_at
   lower-one = rw (e, f) (open-lowest m (delete_at m k))
 
-  module _ (x y : Lowest) (n : x ≡ lowest_case First) (t : y ≡ lowest_case Second) where
+  module _ (x y : Option StreamNumber) (n : x ≡ lowest_case First) (t : y ≡ lowest_case Second) where
     told-first : lowest_told x ≡ First
     told-first = ap lowest_told n ∙ told_back First (omega (arith, lowest-le (named_marked (is_set m (marks_place nontrailer)) (list_at m at)) 0 streams))
 

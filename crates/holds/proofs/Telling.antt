@@ -7,13 +7,13 @@ use Rattle.memory.proofs.Order.{split, pick_true, pick-false}
 use Rattle.integers.specs.declared.number.StreamNumber.{StreamNumber}
 use Rattle.model.specs.Parts.{streams}
 use Rattle.holds.specs.Hold.{lowest_case, lowest_told}
-use Rattle.holds.specs.declared.hold.Lowest.TheVariants.{Stream, Nothing}
+use Rattle.std.specs.Prelude.{Some, None}
 
-pub stream-case : (x : StreamNumber) (n : ℕ) → n ≡ x.value → x.value < streams → lowest_case n ≡ Stream x
+pub stream-case : (x : StreamNumber) (n : ℕ) → n ≡ x.value → x.value < streams → lowest_case n ≡ Some x
 unfolding lowest_case
 stream-case x n e h = ap lowest_case e ∙ pick_true _ _ _ (lt-ltb x.value streams h)
 
-pub no-case : (n : ℕ) → n ≡ streams → lowest_case n ≡ Nothing
+pub no-case : (n : ℕ) → n ≡ streams → lowest_case n ≡ None
 unfolding lowest_case
 no-case n e = pick-false _ _ _ (le-ltb n streams (omega arith))
 

@@ -1,15 +1,14 @@
 -- "A hold enquiry about an entry under deletion tells how many named parts are unfinished and the lowest stream having one (4,096 if none)."
 -- The model counts named parts one by one; the code goes by words below the horizon, then over the listed streams.
-use Rattle.std.specs.Prelude.{ℕ, ◌+◌, ◌*◌, ◌≤◌, ◌<◌, Bool, ◌&&◌, List, [], ◌∷◌, length, ltb}
+use Rattle.std.specs.Prelude.{ℕ, ◌+◌, ◌*◌, ◌≤◌, ◌<◌, Bool, ◌&&◌, List, [], ◌∷◌, length, ltb, Option, Some, None}
 use Rattle.memory.specs.Choice.{pick}
 use Rattle.memory.specs.Numbers.{number}
+use Rattle.integers.specs.declared.number.StreamNumber.{StreamNumber}
 use Rattle.stream_lists.specs.StreamList.{StreamList, names}
 use Rattle.instructions.specs.Instruction.{FineList}
 use Rattle.model.specs.Parts.{streams}
 use Rattle.state.specs.Layout.{decoder_length}
 use Rattle.state.specs.DecoderState.{list_at, delete_at}
-use Rattle.holds.specs.declared.hold.Lowest.{Lowest}
-use Rattle.holds.specs.declared.hold.Lowest.TheVariants.{Stream, Nothing}
 
 -- delete k lies in memory, and its lists are such as a delete has; memory that forms a decoder's state has it of every delete
 pub record GoodDelete (m : List ℕ) (k : ℕ) : Type 0 where
@@ -33,12 +32,12 @@ pub record Named (m : List ℕ) (marks at : ℕ) : Type 0 where
   pub fine : FineList (list_at m at)
 
 -- "the lowest stream having one (4,096 if none)": the stream as a type, and what is told of it
-unfoldable pub lowest_case : ℕ → Lowest
-lowest_case n = pick (ltb n streams) (Stream (record { value = n })) Nothing
+unfoldable pub lowest_case : ℕ → Option StreamNumber
+lowest_case n = pick (ltb n streams) (Some (record { value = n })) None
 
-abbrev pub lowest_told : Lowest → ℕ
-lowest_told (Stream s) = s.value
-lowest_told Nothing = 4096
+abbrev pub lowest_told : Option StreamNumber → ℕ
+lowest_told (Some s) = s.value
+lowest_told None = 4096
 
 -- how many of the listed streams are marked, and the first of them that is, 4,096 if none
 unfoldable pub listed_count : (ℕ → Bool) → List ℕ → ℕ

@@ -15,25 +15,16 @@ use state::kept::{
 };
 use state::layout::{NONTRAILER_MARKS, TRAILER_MARKS};
 
-// The lowest stream with a named part that is unfinished, if there is one.
-#[derive(Clone, Copy)]
-pub enum Lowest {
-    Stream(StreamNumber),
-    Nothing,
-}
-
-// What is told where there is none.
+// What is told where no stream has a named part that is unfinished.
 const NO_STREAM: u32 = 4_096;
 
-impl Lowest {
-    // What a hold enquiry tells.
-    pub fn told(self) -> u32
-        ensures { result ≡ lowest_told self }
-    {
-        match self {
-            Lowest::Stream(stream) => stream.value as u32,
-            Lowest::Nothing => NO_STREAM,
-        }
+// What a hold enquiry tells of the lowest stream.
+pub fn told(lowest: Option<StreamNumber>) -> u32
+    ensures { result ≡ lowest_told lowest }
+{
+    match lowest {
+        Some(stream) => stream.value as u32,
+        None => NO_STREAM,
     }
 }
 
@@ -51,30 +42,26 @@ fn listed_count(m: &[u8], marks: usize, k: usize, at: usize) -> usize
     ensures { (result ≡ listed_count (is_set m.now marks) (streams_at k m.now at)) × (result ≤ 16) }
 {
     let mut count: usize = 0;
-    let mut i: usize = 0;
-    while i < k {
+    for i in 0..k {
         if is_set(m, marks, stream_at(m, at, i)) {
             count += 1;
         }
-        i += 1;
     }
     count
 }
 
 // The first of the `k` streams from the place `at` on that is marked.
-fn listed_lowest(m: &[u8], marks: usize, k: usize, at: usize) -> Lowest
+fn listed_lowest(m: &[u8], marks: usize, k: usize, at: usize) -> Option<StreamNumber>
     requires { Listed m.now marks k at }
     ensures { result ≡ lowest_case (listed_lowest (is_set m.now marks) (streams_at k m.now at)) }
 {
-    let mut i: usize = 0;
-    while i < k {
+    for i in 0..k {
         let stream = stream_at(m, at, i);
         if is_set(m, marks, stream) {
-            return Lowest::Stream(stream);
+            return Some(stream);
         }
-        i += 1;
     }
-    Lowest::Nothing
+    None
 }
 
 // How many of the streams that the list at the place `at` names are marked: those below the horizon by words, then the listed ones.
@@ -88,14 +75,14 @@ fn named_count(m: &[u8], marks: usize, at: usize) -> usize
 }
 
 // The lowest of them, since the listed streams stand above the horizon.
-fn named_lowest(m: &[u8], marks: usize, at: usize) -> Lowest
+fn named_lowest(m: &[u8], marks: usize, at: usize) -> Option<StreamNumber>
     requires { Named m.now marks at }
     ensures { result ≡ lowest_case (lowest_from (named_marked (is_set m.now marks) (list_at m.now at)) 0 streams) }
 {
     let horizon = horizon_at(m, at) as usize;
     let below = lowest_below(m, marks, horizon);
     if below < horizon {
-        return Lowest::Stream(StreamNumber::new(below as u16));
+        return Some(StreamNumber::new(below as u16));
     }
     let count = listed_count_at(m, at) as usize;
     listed_lowest(m, marks, count, listed_place(at))
@@ -110,14 +97,14 @@ pub fn hold_count(m: &[u8], k: usize) -> usize
         + named_count(m, TRAILER_MARKS, trailer_list(k))
 }
 
-// The lowest stream having one.
-pub fn hold_lowest(m: &[u8], k: usize) -> Lowest
+// The lowest stream having one, if there is one.
+pub fn hold_lowest(m: &[u8], k: usize) -> Option<StreamNumber>
     requires { GoodDelete m.now k }
     ensures { result ≡ lowest_case (lowest_open (marks_of m.now) (delete_at m.now k) 0 streams) }
 {
     let nontrailer = named_lowest(m, NONTRAILER_MARKS, nontrailer_list(k));
     let trailer = named_lowest(m, TRAILER_MARKS, trailer_list(k));
-    if nontrailer.told() < trailer.told() {
+    if told(nontrailer) < told(trailer) {
         return nontrailer;
     }
     trailer

@@ -1,11 +1,12 @@
 // The encoder's references: for each kind of part the horizon that an entry's delete would be written with, by the entry's row.
 ghost use Rattle.std.specs.Prelude.{◌≡◌, ℕ, ◌+◌, ◌≤◌, ◌<◌, length};
-ghost use Rattle.model.specs.Parts.{Part};
 ghost use Rattle.state.specs.Layout.{encoder_length};
+ghost use Rattle.parts.specs.Turn.{part_in};
 ghost use Rattle.horizons.specs.Horizons.{raised_at, raised, horizons_opened, horizons_closed};
 
 use columns::column::{close, open_u16};
 use integers::number::StreamNumber;
+use parts::turn::Part;
 use state::kept::{horizon_at, put_horizon};
 use state::reference::{
     HORIZON_LENGTH, NONTRAILER_HORIZONS, TRAILER_HORIZONS, nontrailer_place, trailer_place,
@@ -22,20 +23,16 @@ fn raise(m: &mut [u8], at: usize, stream: StreamNumber)
     }
 }
 
-// A non-trailer block on this stream refers to the entry in row `place`.
-pub fn refer_nontrailer(m: &mut [u8], place: usize, stream: StreamNumber)
+// A block of this part on this stream refers to the entry in row `place`.
+pub fn refer(m: &mut [u8], place: usize, part: Part, stream: StreamNumber)
     requires { (place < 128) × (encoder_length ≤ length m.old) × (stream.value < 4096) }
-    ensures { m.new ≡ raised m.old place Part.nontrailer stream.value }
+    ensures { m.new ≡ raised m.old place (part_in part) stream.value }
 {
-    raise(m, nontrailer_place(place), stream);
-}
-
-// A trailer block does.
-pub fn refer_trailer(m: &mut [u8], place: usize, stream: StreamNumber)
-    requires { (place < 128) × (encoder_length ≤ length m.old) × (stream.value < 4096) }
-    ensures { m.new ≡ raised m.old place Part.trailer stream.value }
-{
-    raise(m, trailer_place(place), stream);
+    let at = match part {
+        Part::Nontrailer => nontrailer_place(place),
+        Part::Trailer => trailer_place(place),
+    };
+    raise(m, at, stream);
 }
 
 // The horizons of a new entry in row `place`, before others of `count`: it is referred to by no block.

@@ -1,5 +1,5 @@
 -- The laws of the code, of packing and of unpacking.
-pub mod Arms
+pub mod Tables
 pub mod BitLaws
 pub mod Prefixes
 pub mod Standings

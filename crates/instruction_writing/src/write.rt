@@ -1,14 +1,13 @@
 // Instructions written at a place of the output. Each answers the place after what it wrote.
 ghost use Rattle.std.specs.Prelude.{◌≡◌, ℕ, ◌+◌, ◌≤◌, [], length};
 ghost use Rattle.memory.specs.Bytes.{overlay};
-ghost use Rattle.wire.specs.Name.{Name};
 ghost use Rattle.instructions.specs.Instruction.{Instruction, FineInstruction, instruction_wire};
 
 use instructions::read;
 use integers::integer::WireInt;
 use integers::number::TableIndex;
 use stream_lists::stream_list::write_list;
-use wire_writing::write::{write_name_index, write_name_text, write_string};
+use wire_writing::write::{NameToWrite, write_string};
 
 // The bits before an index, as a reader finds them.
 const INSERT: u32 = read::INSERT as u32;
@@ -17,45 +16,28 @@ const ACKNOWLEDGE: u32 = read::ACKNOWLEDGE as u32;
 
 const DELETE: u32 = read::DELETE as u32;
 
-// An insert with its name by index.
-pub fn write_insert_index(
+// An insert with its name by index, or as bytes.
+#[tactic(auto, unfolding(instructions::specs::Instruction::instruction_wire))]
+pub fn write_insert<N: NameToWrite>(
     index: TableIndex,
-    name: TableIndex,
+    name: N,
     value: &[u8],
     out: &mut [u8],
     at: usize,
 ) -> usize
-    requires fine_instruction { FineInstruction (Instruction.insert index.value (Name.indexed name.value) value.now) }
-    requires value_in_bounds { at + length (instruction_wire (Instruction.insert index.value (Name.indexed name.value) value.now)) ≤ length out.old }
-    ensures value { result ≡ at + length (instruction_wire (Instruction.insert index.value (Name.indexed name.value) value.now)) }
-    ensures out_after { out.new ≡ overlay out.old at (instruction_wire (Instruction.insert index.value (Name.indexed name.value) value.now)) }
+    requires fine_instruction { FineInstruction (Instruction.insert index.value (N.says name) value.now) }
+    requires value_in_bounds { at + length (instruction_wire (Instruction.insert index.value (N.says name) value.now)) ≤ length out.old }
+    ensures value { result ≡ at + length (instruction_wire (Instruction.insert index.value (N.says name) value.now)) }
+    ensures out_after { out.new ≡ overlay out.old at (instruction_wire (Instruction.insert index.value (N.says name) value.now)) }
 {
     let i = WireInt::new(index.value);
     let next = i.write(out, at, WireInt::PREFIX7, INSERT);
-    let after = write_name_index(name, out, next, WireInt::PREFIX8, 0);
-    write_string(value, out, after)
-}
-
-// An insert with its name as bytes.
-pub fn write_insert_text(
-    index: TableIndex,
-    name: &[u8],
-    value: &[u8],
-    out: &mut [u8],
-    at: usize,
-) -> usize
-    requires fine_instruction { FineInstruction (Instruction.insert index.value (Name.literal name.now) value.now) }
-    requires value_in_bounds { at + length (instruction_wire (Instruction.insert index.value (Name.literal name.now) value.now)) ≤ length out.old }
-    ensures value { result ≡ at + length (instruction_wire (Instruction.insert index.value (Name.literal name.now) value.now)) }
-    ensures out_after { out.new ≡ overlay out.old at (instruction_wire (Instruction.insert index.value (Name.literal name.now) value.now)) }
-{
-    let i = WireInt::new(index.value);
-    let next = i.write(out, at, WireInt::PREFIX7, INSERT);
-    let after = write_name_text(name, out, next, WireInt::PREFIX8, 0);
+    let after = name.write_name(out, next, WireInt::PREFIX8, 0);
     write_string(value, out, after)
 }
 
 // A delete with its two stream lists, each a horizon and the streams listed above it.
+#[tactic(auto, unfolding(instructions::specs::Instruction::instruction_wire))]
 pub fn write_delete(
     index: TableIndex,
     horizon: u32,
@@ -77,6 +59,7 @@ pub fn write_delete(
 }
 
 // The acknowledgement of a delete.
+#[tactic(auto, unfolding(instructions::specs::Instruction::instruction_wire))]
 pub fn write_acknowledgement(index: TableIndex, out: &mut [u8], at: usize) -> usize
     requires fine_instruction { FineInstruction (Instruction.acknowledge index.value) }
     requires value_in_bounds { at + length (instruction_wire (Instruction.acknowledge index.value)) ≤ length out.old }

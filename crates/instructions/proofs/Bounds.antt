@@ -11,51 +11,21 @@ use Rattle.wire.specs.Text.{read_string}
 use Rattle.wire.specs.Name.{FineName, name_of, read_name, GoodName}
 use Rattle.stream_lists.specs.StreamList.{read_list, list_of, InList}
 use Rattle.integers.specs.declared.number.TableIndex.{TableIndex}
-use Rattle.integers.specs.declared.integer.IntRead.{IntRead}
-use Rattle.integers.specs.declared.integer.IntRead.TheVariants.{Value, Refused as IntRefused}
-use Rattle.wire.specs.declared.text.StringRead.{StringRead}
-use Rattle.wire.specs.declared.text.StringRead.TheVariants.{Found as StringFound, Refused as StringRefused}
 use Rattle.wire.specs.declared.name.NamePlace.{NamePlace}
 use Rattle.wire.specs.declared.name.NamePlace.TheVariants.{Index as NameIndex, Text}
-use Rattle.wire.specs.declared.name.NameRead.{NameRead}
-use Rattle.wire.specs.declared.name.NameRead.TheVariants.{Found as NameFound, Refused as NameRefused}
 use Rattle.stream_lists.specs.declared.stream_list.ListPlace.{ListPlace}
-use Rattle.stream_lists.specs.declared.stream_list.ListRead.{ListRead}
-use Rattle.stream_lists.specs.declared.stream_list.ListRead.TheVariants.{Found as ListFound, Refused as ListRefused}
 use Rattle.integers.proofs.Bounds.{int-good}
 use Rattle.wire.proofs.TextBounds.{string-good, string-size, name-good}
 use Rattle.stream_lists.proofs.ListBounds.{ListGood, list-good}
 use Rattle.instructions.specs.Instruction.{FineIndex, FineList, FineInstruction, Manages}
 use Rattle.instructions.specs.Reading.{read_index, read_insert, read_delete, read_acknowledgement, read_for_decoder, read_for_encoder, instruction_of, InBytes}
-use Rattle.instructions.specs.declared.read.IndexRead.{IndexRead}
-use Rattle.instructions.specs.declared.read.IndexRead.TheVariants.{Index, Refused as IndexRefused}
 use Rattle.instructions.specs.declared.read.InstructionPlace.{InstructionPlace}
 use Rattle.instructions.specs.declared.read.InstructionPlace.TheVariants.{Acknowledge}
-use Rattle.instructions.specs.declared.read.InstructionRead.{InstructionRead}
-use Rattle.instructions.specs.declared.read.InstructionRead.TheVariants.{Found, Refused}
-use Rattle.instructions.proofs.Equations.{
-  index-refused,
-  index-low,
-  index-found,
-  insert-refused,
-  insert-name-refused,
-  insert-value-refused,
-  insert-found,
-  delete-refused,
-  delete-nontrailer-refused,
-  delete-trailer-refused,
-  delete-found,
-  acknowledgement-refused,
-  acknowledgement-found,
-  decoder-empty,
-  decoder-insert,
-  decoder-acknowledgement,
-  decoder-delete,
-  encoder-empty,
-  encoder-insert,
-  encoder-delete,
-  encoder-acknowledgement,
-}
+use Rattle.instructions.proofs.Equations.{index-refused, index-low, index-found, insert-refused, insert-name-refused, insert-value-refused, insert-found, delete-refused, delete-nontrailer-refused, delete-trailer-refused, delete-found, acknowledgement-refused, acknowledgement-found, decoder-empty, decoder-insert, decoder-acknowledgement, decoder-delete, encoder-empty, encoder-insert, encoder-delete, encoder-acknowledgement}
+use Rattle.std.specs.Prelude.{Ok, Err}
+use Rattle.integers.specs.Answers.{Read}
+use Rattle.integers.specs.declared.integer.WireInt.{WireInt}
+use Rattle.wire.specs.declared.text.StringPlace.{StringPlace}
 
 -- what the decoder's reader can find
 pub record ForDecoder (s : List ℕ) (p : InstructionPlace) (taken : ℕ) : Type 0 where
@@ -75,27 +45,27 @@ pub record ForEncoder (s : List ℕ) (p : InstructionPlace) (taken : ℕ) : Type
   pub kind : p ≡ Acknowledge index
   pub fine : FineIndex index.value
 
-abbrev OfIndex : List ℕ → IndexRead → Type 0
-OfIndex s (Index i next) = (1 ≤ next) × (next ≤ length s) × (next ≤ 5) × FineIndex i.value
-OfIndex s (IndexRefused number) = Unit {0}
+abbrev OfIndex : List ℕ → Read TableIndex → Type 0
+OfIndex s (Ok (i, next)) = (1 ≤ next) × (next ≤ length s) × (next ≤ 5) × FineIndex i.value
+OfIndex s (Err why) = Unit {0}
 
-abbrev OfDecoder : List ℕ → InstructionRead → Type 0
-OfDecoder s (Found p taken) = ForDecoder s p taken
-OfDecoder s (Refused number) = Unit {0}
+abbrev OfDecoder : List ℕ → Read InstructionPlace → Type 0
+OfDecoder s (Ok (p, taken)) = ForDecoder s p taken
+OfDecoder s (Err why) = Unit {0}
 
-abbrev OfEncoder : List ℕ → InstructionRead → Type 0
-OfEncoder s (Found p taken) = ForEncoder s p taken
-OfEncoder s (Refused number) = Unit {0}
+abbrev OfEncoder : List ℕ → Read InstructionPlace → Type 0
+OfEncoder s (Ok (p, taken)) = ForEncoder s p taken
+OfEncoder s (Err why) = Unit {0}
 
-of-index : (k : ℕ) (s : List ℕ) → k ≤ 8 → (r : IntRead) → r ≡ read_int k s 0 → OfIndex s (read_index k s)
-of-index k s h (IntRefused number) e = rw (index-refused k s _ e number refl) tt
-of-index k s h (Value n next) e =
+of-index : (k : ℕ) (s : List ℕ) → k ≤ 8 → (r : Read WireInt) → r ≡ read_int k s 0 → OfIndex s (read_index k s)
+of-index k s h (Err why) e = rw (index-refused k s _ e why refl) tt
+of-index k s h (Ok (n, next)) e =
     let g = int-good k s 0 h _ e n next refl in
     split n.value 62
     (λ l. rw (index-low k s _ e n next refl l) tt)
     (λ l. rw (index-found k s _ e n next refl l) (omega (arith, g.0), g.1, omega (arith, g.3), (l, g.2)))
 
-pub index-good : (k : ℕ) (s : List ℕ) → k ≤ 8 → (i : TableIndex) (next : ℕ) → read_index k s ≡ Index i next
+pub index-good : (k : ℕ) (s : List ℕ) → k ≤ 8 → (i : TableIndex) (next : ℕ) → read_index k s ≡ Ok (i, next)
     → (1 ≤ next) × (next ≤ length s) × (next ≤ 5) × FineIndex i.value
 index-good k s h i next d = subst (OfIndex s) d (of-index k s h (read_int k s 0) refl)
 
@@ -111,17 +81,17 @@ in_list : (s : List ℕ) (at : ℕ) (p : ListPlace) (next : ℕ) → ListGood s 
 in_list s at p next g = record { near = g.near; few = g.few; end = next; within = g.within; deltas = g.deltas }
 
 module _ (s : List ℕ) where
-  of-insert : (r : IndexRead) → r ≡ read_index 7 s → OfDecoder s (read_insert s)
-  of-insert (IndexRefused number) e = rw (insert-refused s _ e number refl) tt
-  of-insert (Index i next) e = names (read_name 8 s next) refl
+  of-insert : (r : Read TableIndex) → r ≡ read_index 7 s → OfDecoder s (read_insert s)
+  of-insert (Err why) e = rw (insert-refused s _ e why refl) tt
+  of-insert (Ok (i, next)) e = names (read_name 8 s next) refl
     where
-      names : (n : NameRead) → n ≡ read_name 8 s next → OfDecoder s (read_insert s)
-      names (NameRefused number) f = rw (insert-name-refused s _ e i next refl _ f number refl) tt
-      names (NameFound name after) f = values (read_string s after 2047) refl
+      names : (n : Read NamePlace) → n ≡ read_name 8 s next → OfDecoder s (read_insert s)
+      names (Err why) f = rw (insert-name-refused s _ e i next refl _ f why refl) tt
+      names (Ok (name, after)) f = values (read_string s after 2047) refl
         where
-          values : (v : StringRead) → v ≡ read_string s after 2047 → OfDecoder s (read_insert s)
-          values (StringRefused number) h = rw (insert-value-refused s _ e i next refl _ f name after refl _ h number refl) tt
-          values (StringFound value taken) h =
+          values : (v : Read StringPlace) → v ≡ read_string s after 2047 → OfDecoder s (read_insert s)
+          values (Err why) h = rw (insert-value-refused s _ e i next refl _ f name after refl _ h why refl) tt
+          values (Ok (value, taken)) h =
               let a = index-good 7 s (omega arith) i next (sym e) in
               let b = name-good 8 s next (omega arith) name after (sym f) in
               let g = string-good s after 2047 value taken (sym h) in
@@ -135,17 +105,17 @@ module _ (s : List ℕ) where
                 bytes = (b.3, g.text, g.short);
               })
 
-  of-delete : (r : IndexRead) → r ≡ read_index 6 s → OfDecoder s (read_delete s)
-  of-delete (IndexRefused number) e = rw (delete-refused s _ e number refl) tt
-  of-delete (Index i next) e = nontrailers (read_list s next) refl
+  of-delete : (r : Read TableIndex) → r ≡ read_index 6 s → OfDecoder s (read_delete s)
+  of-delete (Err why) e = rw (delete-refused s _ e why refl) tt
+  of-delete (Ok (i, next)) e = nontrailers (read_list s next) refl
     where
-      nontrailers : (l : ListRead) → l ≡ read_list s next → OfDecoder s (read_delete s)
-      nontrailers (ListRefused number) f = rw (delete-nontrailer-refused s _ e i next refl _ f number refl) tt
-      nontrailers (ListFound nontrailer after) f = trailers (read_list s after) refl
+      nontrailers : (l : Read ListPlace) → l ≡ read_list s next → OfDecoder s (read_delete s)
+      nontrailers (Err why) f = rw (delete-nontrailer-refused s _ e i next refl _ f why refl) tt
+      nontrailers (Ok (nontrailer, after)) f = trailers (read_list s after) refl
         where
-          trailers : (m : ListRead) → m ≡ read_list s after → OfDecoder s (read_delete s)
-          trailers (ListRefused number) h = rw (delete-trailer-refused s _ e i next refl _ f nontrailer after refl _ h number refl) tt
-          trailers (ListFound trailer taken) h =
+          trailers : (m : Read ListPlace) → m ≡ read_list s after → OfDecoder s (read_delete s)
+          trailers (Err why) h = rw (delete-trailer-refused s _ e i next refl _ f nontrailer after refl _ h why refl) tt
+          trailers (Ok (trailer, taken)) h =
               let a = index-good 6 s (omega arith) i next (sym e) in
               let b = list-good s next nontrailer after (sym f) in
               let g = list-good s after trailer taken (sym h) in
@@ -159,9 +129,9 @@ module _ (s : List ℕ) where
                 bytes = (in_list s next nontrailer after b, in_list s after trailer taken g);
               })
 
-  of-acknowledgement : (r : IndexRead) → r ≡ read_index 6 s → OfEncoder s (read_acknowledgement s)
-  of-acknowledgement (IndexRefused number) e = rw (acknowledgement-refused s _ e number refl) tt
-  of-acknowledgement (Index i taken) e =
+  of-acknowledgement : (r : Read TableIndex) → r ≡ read_index 6 s → OfEncoder s (read_acknowledgement s)
+  of-acknowledgement (Err why) e = rw (acknowledgement-refused s _ e why refl) tt
+  of-acknowledgement (Ok (i, taken)) e =
       let a = index-good 6 s (omega arith) i taken (sym e) in
       rw (acknowledgement-found s _ e i taken refl) (record { some = a.0; inside = a.1; short = a.2; index = i; kind = refl; fine = a.3 })
 
@@ -186,8 +156,8 @@ module _ (s : List ℕ) where
       (λ h. rw (encoder-empty s h) tt)
 
   module _ (p : InstructionPlace) (taken : ℕ) where
-    pub decoder-good : read_for_decoder s ≡ Found p taken → ForDecoder s p taken
+    pub decoder-good : read_for_decoder s ≡ Ok (p, taken) → ForDecoder s p taken
     decoder-good d = subst (OfDecoder s) d of-decoder
 
-    pub encoder-good : read_for_encoder s ≡ Found p taken → ForEncoder s p taken
+    pub encoder-good : read_for_encoder s ≡ Ok (p, taken) → ForEncoder s p taken
     encoder-good d = subst (OfEncoder s) d of-encoder

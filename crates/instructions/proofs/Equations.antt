@@ -12,94 +12,87 @@ use Rattle.wire.specs.Name.{read_name}
 use Rattle.stream_lists.specs.StreamList.{read_list}
 use Rattle.integers.specs.declared.number.TableIndex.{TableIndex}
 use Rattle.integers.specs.declared.integer.WireInt.{WireInt}
-use Rattle.integers.specs.declared.integer.IntRead.{IntRead}
-use Rattle.integers.specs.declared.integer.IntRead.TheVariants.{Value, Refused as IntRefused}
 use Rattle.wire.specs.declared.text.StringPlace.{StringPlace}
-use Rattle.wire.specs.declared.text.StringRead.{StringRead}
-use Rattle.wire.specs.declared.text.StringRead.TheVariants.{Found as StringFound, Refused as StringRefused}
 use Rattle.wire.specs.declared.name.NamePlace.{NamePlace}
-use Rattle.wire.specs.declared.name.NameRead.{NameRead}
-use Rattle.wire.specs.declared.name.NameRead.TheVariants.{Found as NameFound, Refused as NameRefused}
 use Rattle.stream_lists.specs.declared.stream_list.ListPlace.{ListPlace}
-use Rattle.stream_lists.specs.declared.stream_list.ListRead.{ListRead}
-use Rattle.stream_lists.specs.declared.stream_list.ListRead.TheVariants.{Found as ListFound, Refused as ListRefused}
 use Rattle.instructions.specs.Reading.{read_index, read_insert, read_delete, read_acknowledgement, read_for_decoder, read_for_encoder}
-use Rattle.instructions.specs.declared.read.IndexRead.{IndexRead}
-use Rattle.instructions.specs.declared.read.IndexRead.TheVariants.{Index, Refused as IndexRefused}
 use Rattle.instructions.specs.declared.read.InstructionPlace.TheVariants.{Insert, Delete, Acknowledge}
-use Rattle.instructions.specs.declared.read.InstructionRead.TheVariants.{Found, Refused}
+use Rattle.std.specs.Prelude.{Ok, Err}
+use Rattle.integers.specs.Answers.{Read}
+use Rattle.integers.specs.declared.answer.Refusal.TheVariants.{NotAllowed, Truncated}
+use Rattle.integers.specs.declared.answer.Refusal.{Refusal}
 
 -- an index: refused, below 62, or found
-module _ (k : ℕ) (s : List ℕ) (r : IntRead) (e : r ≡ read_int k s 0) where
-  pub index-refused : (number : ℕ) → r ≡ IntRefused number → read_index k s ≡ IndexRefused number
+module _ (k : ℕ) (s : List ℕ) (r : Read WireInt) (e : r ≡ read_int k s 0) where
+  pub index-refused : (why : Refusal) → r ≡ Err why → read_index k s ≡ Err why
   unfolding read_index
-  index-refused number d = simp (← e, d)
+  index-refused why d = simp (← e, d)
 
-  module _ (n : WireInt) (next : ℕ) (d : r ≡ Value n next) where
-    pub index-low : n.value < 62 → read_index k s ≡ IndexRefused 5
+  module _ (n : WireInt) (next : ℕ) (d : r ≡ Ok (n, next)) where
+    pub index-low : n.value < 62 → read_index k s ≡ Err NotAllowed
     unfolding read_index
     index-low h = simp (← e, d, lt-leb _ _ h)
 
-    pub index-found : 62 ≤ n.value → read_index k s ≡ Index (record { value = n.value }) next
+    pub index-found : 62 ≤ n.value → read_index k s ≡ Ok (record { value = n.value }, next)
     unfolding read_index
     index-found h = simp (← e, d, le-leb _ _ h)
 
 -- an insert: its index, its name or its value refused, or found
-module _ (s : List ℕ) (r : IndexRead) (e : r ≡ read_index 7 s) where
-  pub insert-refused : (number : ℕ) → r ≡ IndexRefused number → read_insert s ≡ Refused number
+module _ (s : List ℕ) (r : Read TableIndex) (e : r ≡ read_index 7 s) where
+  pub insert-refused : (why : Refusal) → r ≡ Err why → read_insert s ≡ Err why
   unfolding read_insert
-  insert-refused number d = simp (← e, d)
+  insert-refused why d = simp (← e, d)
 
-  module _ (i : TableIndex) (next : ℕ) (d : r ≡ Index i next) (n : NameRead) (f : n ≡ read_name 8 s next) where
-    pub insert-name-refused : (number : ℕ) → n ≡ NameRefused number → read_insert s ≡ Refused number
+  module _ (i : TableIndex) (next : ℕ) (d : r ≡ Ok (i, next)) (n : Read NamePlace) (f : n ≡ read_name 8 s next) where
+    pub insert-name-refused : (why : Refusal) → n ≡ Err why → read_insert s ≡ Err why
     unfolding read_insert
-    insert-name-refused number g = simp (← e, d, ← f, g)
+    insert-name-refused why g = simp (← e, d, ← f, g)
 
-    module _ (name : NamePlace) (after : ℕ) (g : n ≡ NameFound name after) (v : StringRead) (h : v ≡ read_string s after 2047) where
-      pub insert-value-refused : (number : ℕ) → v ≡ StringRefused number → read_insert s ≡ Refused number
+    module _ (name : NamePlace) (after : ℕ) (g : n ≡ Ok (name, after)) (v : Read StringPlace) (h : v ≡ read_string s after 2047) where
+      pub insert-value-refused : (why : Refusal) → v ≡ Err why → read_insert s ≡ Err why
       unfolding read_insert
-      insert-value-refused number k = simp (← e, d, ← f, g, ← h, k)
+      insert-value-refused why k = simp (← e, d, ← f, g, ← h, k)
 
-      pub insert-found : (value : StringPlace) (taken : ℕ) → v ≡ StringFound value taken → read_insert s ≡ Found (Insert i name value) taken
+      pub insert-found : (value : StringPlace) (taken : ℕ) → v ≡ Ok (value, taken) → read_insert s ≡ Ok (Insert i name value, taken)
       unfolding read_insert
       insert-found value taken k = simp (← e, d, ← f, g, ← h, k)
 
 -- a delete: its index, its first or its second list refused, or found
-module _ (s : List ℕ) (r : IndexRead) (e : r ≡ read_index 6 s) where
-  pub delete-refused : (number : ℕ) → r ≡ IndexRefused number → read_delete s ≡ Refused number
+module _ (s : List ℕ) (r : Read TableIndex) (e : r ≡ read_index 6 s) where
+  pub delete-refused : (why : Refusal) → r ≡ Err why → read_delete s ≡ Err why
   unfolding read_delete
-  delete-refused number d = simp (← e, d)
+  delete-refused why d = simp (← e, d)
 
-  module _ (i : TableIndex) (next : ℕ) (d : r ≡ Index i next) (l : ListRead) (f : l ≡ read_list s next) where
-    pub delete-nontrailer-refused : (number : ℕ) → l ≡ ListRefused number → read_delete s ≡ Refused number
+  module _ (i : TableIndex) (next : ℕ) (d : r ≡ Ok (i, next)) (l : Read ListPlace) (f : l ≡ read_list s next) where
+    pub delete-nontrailer-refused : (why : Refusal) → l ≡ Err why → read_delete s ≡ Err why
     unfolding read_delete
-    delete-nontrailer-refused number g = simp (← e, d, ← f, g)
+    delete-nontrailer-refused why g = simp (← e, d, ← f, g)
 
-    module _ (nontrailer : ListPlace) (after : ℕ) (g : l ≡ ListFound nontrailer after) (m : ListRead) (h : m ≡ read_list s after) where
-      pub delete-trailer-refused : (number : ℕ) → m ≡ ListRefused number → read_delete s ≡ Refused number
+    module _ (nontrailer : ListPlace) (after : ℕ) (g : l ≡ Ok (nontrailer, after)) (m : Read ListPlace) (h : m ≡ read_list s after) where
+      pub delete-trailer-refused : (why : Refusal) → m ≡ Err why → read_delete s ≡ Err why
       unfolding read_delete
-      delete-trailer-refused number k = simp (← e, d, ← f, g, ← h, k)
+      delete-trailer-refused why k = simp (← e, d, ← f, g, ← h, k)
 
-      pub delete-found : (trailer : ListPlace) (taken : ℕ) → m ≡ ListFound trailer taken → read_delete s ≡ Found (Delete i nontrailer trailer) taken
+      pub delete-found : (trailer : ListPlace) (taken : ℕ) → m ≡ Ok (trailer, taken) → read_delete s ≡ Ok (Delete i nontrailer trailer, taken)
       unfolding read_delete
       delete-found trailer taken k = simp (← e, d, ← f, g, ← h, k)
 
   -- an acknowledgement: its index refused, or found
-  pub acknowledgement-refused : (number : ℕ) → r ≡ IndexRefused number → read_acknowledgement s ≡ Refused number
+  pub acknowledgement-refused : (why : Refusal) → r ≡ Err why → read_acknowledgement s ≡ Err why
   unfolding read_acknowledgement
-  acknowledgement-refused number d = simp (← e, d)
+  acknowledgement-refused why d = simp (← e, d)
 
-  pub acknowledgement-found : (i : TableIndex) (taken : ℕ) → r ≡ Index i taken → read_acknowledgement s ≡ Found (Acknowledge i) taken
+  pub acknowledgement-found : (i : TableIndex) (taken : ℕ) → r ≡ Ok (i, taken) → read_acknowledgement s ≡ Ok (Acknowledge i, taken)
   unfolding read_acknowledgement
   acknowledgement-found i taken d = simp (← e, d)
 
 -- the two ends, by the first byte
 module _ (s : List ℕ) where
-  pub decoder-empty : length s ≤ 0 → read_for_decoder s ≡ Refused 2
+  pub decoder-empty : length s ≤ 0 → read_for_decoder s ≡ Err Truncated
   unfolding read_for_decoder
   decoder-empty h = simp (le-ltb _ _ h)
 
-  pub encoder-empty : length s ≤ 0 → read_for_encoder s ≡ Refused 2
+  pub encoder-empty : length s ≤ 0 → read_for_encoder s ≡ Err Truncated
   unfolding read_for_encoder
   encoder-empty h = simp (le-ltb _ _ h)
 
@@ -108,7 +101,7 @@ module _ (s : List ℕ) where
     unfolding read_for_decoder
     decoder-insert k = simp (lt-ltb _ _ h, le-leb _ _ k)
 
-    pub decoder-acknowledgement : get_or s 0 0 < 128 → 64 ≤ get_or s 0 0 → read_for_decoder s ≡ Refused 5
+    pub decoder-acknowledgement : get_or s 0 0 < 128 → 64 ≤ get_or s 0 0 → read_for_decoder s ≡ Err NotAllowed
     unfolding read_for_decoder
     decoder-acknowledgement k l = simp (lt-ltb _ _ h, lt-leb _ _ k, le-ltb _ _ l)
 
@@ -116,11 +109,11 @@ module _ (s : List ℕ) where
     unfolding read_for_decoder
     decoder-delete k = let l : get_or s 0 0 < 128 = omega arith in simp (lt-ltb _ _ h, lt-leb _ _ l, lt-ltb _ _ k)
 
-    pub encoder-insert : 128 ≤ get_or s 0 0 → read_for_encoder s ≡ Refused 5
+    pub encoder-insert : 128 ≤ get_or s 0 0 → read_for_encoder s ≡ Err NotAllowed
     unfolding read_for_encoder
     encoder-insert k = simp (lt-ltb _ _ h, le-ltb _ _ k)
 
-    pub encoder-delete : get_or s 0 0 < 64 → read_for_encoder s ≡ Refused 5
+    pub encoder-delete : get_or s 0 0 < 64 → read_for_encoder s ≡ Err NotAllowed
     unfolding read_for_encoder
     encoder-delete k = let l : get_or s 0 0 < 128 = omega arith in simp (lt-ltb _ _ h, lt-ltb _ _ l, lt-leb _ _ k)
 

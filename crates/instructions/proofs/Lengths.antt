@@ -1,5 +1,5 @@
 -- How many bytes an instruction has, and that they are bytes. By the lengths of its parts.
-use mathlib.Core.Path.{◌≡◌, refl, ap}
+use mathlib.Core.Path.{◌≡◌, ap}
 use Prim.Native.Nat.{ℕ, zero, suc, ◌-◌, ◌≤◌}
 use native.Mathlib.Omega.{arith}
 use mathlib.Core.List.{List, [], ◌∷◌, ◌++◌}
@@ -17,20 +17,20 @@ use Rattle.instructions.specs.Instruction.{Instruction, insert, delete, acknowle
 use Rattle.instructions.proofs.Writing.{acknowledge-wire, insert-length, delete-length}
 
 pub acknowledge-length : (i : ℕ) → (1 ≤ length (instruction_wire (acknowledge i))) × (length (instruction_wire (acknowledge i)) ≤ 5)
-acknowledge-length i = rw (acknowledge-wire i i refl) (int-length 6 64 i)
+acknowledge-length i = rw (acknowledge-wire i) (int-length 6 64 i)
 
 -- one byte for 62, and at most two up to 190
 pub acknowledge-one : (i : ℕ) → i ≤ 62 → length (instruction_wire (acknowledge i)) ≡ 1
-acknowledge-one i h = rw (acknowledge-wire i i refl) (int-one 6 64 i (omega arith))
+acknowledge-one i h = rw (acknowledge-wire i) (int-one 6 64 i (omega arith))
 
 pub acknowledge-two : (i : ℕ) → i ≤ 190 → length (instruction_wire (acknowledge i)) ≤ 2
-acknowledge-two i h = rw (acknowledge-wire i i refl) (int-within 6 64 i 0 (omega arith))
+acknowledge-two i h = rw (acknowledge-wire i) (int-within 6 64 i 0 (omega arith))
 
 -- no instruction is empty
 pub instruction-some : (i : Instruction) → 1 ≤ length (instruction_wire i)
-instruction-some (insert i name value) = omega (arith, insert-length i i refl name value, int-length 7 128 i)
+instruction-some (insert i name value) = omega (arith, insert-length i name value, int-length 7 128 i)
 instruction-some (delete i nontrailer trailer) =
-    omega (arith, delete-length i i refl nontrailer.horizon nontrailer.streams trailer.horizon trailer.streams, int-length 6 0 i)
+    omega (arith, delete-length i nontrailer trailer, int-length 6 0 i)
 instruction-some (acknowledge i) = (acknowledge-length i).0
 
 -- an insert has at most 2,314 bytes, a delete 109
@@ -41,13 +41,13 @@ name-size (Name.literal xs) f =
 
 pub insert-size : (i : ℕ) (name : Name) (value : List ℕ) → FineInstruction (insert i name value) → length (instruction_wire (insert i name value)) ≤ 2314
 insert-size i name value f =
-    omega (arith, insert-length i i refl name value, int-length 7 128 i, name-size name f.1, string-within value 1 (omega (arith, f.2)))
+    omega (arith, insert-length i name value, int-length 7 128 i, name-size name f.1, string-within value 1 (omega (arith, f.2)))
 
 pub delete-size : (i : ℕ) (nontrailer trailer : StreamList) → FineInstruction (delete i nontrailer trailer) → length (instruction_wire (delete i nontrailer trailer)) ≤ 109
 delete-size i nontrailer trailer f =
     omega (
       arith,
-      delete-length i i refl nontrailer.horizon nontrailer.streams trailer.horizon trailer.streams,
+      delete-length i nontrailer trailer,
       int-length 6 0 i,
       list-size nontrailer.horizon nontrailer.streams f.1.0 f.1.1 f.1.2,
       list-size trailer.horizon trailer.streams f.2.0 f.2.1 f.2.2,

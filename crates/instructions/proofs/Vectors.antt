@@ -11,18 +11,11 @@ use Rattle.wire.specs.Name.{Name, read_name, name_wire}
 use Rattle.stream_lists.specs.StreamList.{StreamList, read_delta, read_deltas, streams_from, read_list, deltas_wire, list_wire}
 use Rattle.wire.specs.declared.name.NamePlace.TheVariants.{Text}
 use Rattle.instructions.specs.Instruction.{Instruction, insert, delete, acknowledge, instruction_wire}
-use Rattle.instructions.specs.Reading.{
-  read_index,
-  read_insert,
-  read_delete,
-  read_acknowledgement,
-  read_for_decoder,
-  read_for_encoder,
-  instruction_of,
-}
+use Rattle.instructions.specs.Reading.{read_index, read_insert, read_delete, read_acknowledgement, read_for_decoder, read_for_encoder, instruction_of}
 use Rattle.instructions.specs.declared.read.InstructionPlace.{InstructionPlace}
 use Rattle.instructions.specs.declared.read.InstructionPlace.TheVariants.{Insert, Delete, Acknowledge}
-use Rattle.instructions.specs.declared.read.InstructionRead.TheVariants.{Found, Refused}
+use Rattle.std.specs.Prelude.{Ok, Err}
+use Rattle.integers.specs.declared.answer.Refusal.TheVariants.{NotAllowed, TooLarge, Truncated}
 
 abbrev none : StreamList
 none = record { horizon = 0; streams = [] }
@@ -50,16 +43,16 @@ written = (refl, refl, refl, refl, refl, refl, refl)
 
 -- an index above the largest: 3; an acknowledgement for the decoder: 5; nothing: 2
 abbrev Refusals : Type 0
-Refusals = (read_for_decoder (0xff ∷ 0x81 ∷ 0xff ∷ 0xff ∷ 0x3f ∷ 0x01 ∷ 0x00 ∷ []) ≡ Refused 3)
-    × (read_for_decoder (0x7f ∷ []) ≡ Refused 5)
-    × (read_for_encoder (0xff ∷ []) ≡ Refused 5)
-    × (read_for_encoder (0x3e ∷ []) ≡ Refused 5)
-    × (read_for_decoder [] ≡ Refused 2)
-    × (read_for_encoder [] ≡ Refused 2)
-    × (read_for_decoder (0xbd ∷ 0x01 ∷ 0x00 ∷ []) ≡ Refused 5)
-    × (read_for_decoder (0x3d ∷ []) ≡ Refused 5)
-    × (read_for_encoder (0x7d ∷ []) ≡ Refused 5)
-    × (read_for_encoder (0x7f ∷ []) ≡ Refused 2)
+Refusals = (read_for_decoder (0xff ∷ 0x81 ∷ 0xff ∷ 0xff ∷ 0x3f ∷ 0x01 ∷ 0x00 ∷ []) ≡ Err TooLarge)
+    × (read_for_decoder (0x7f ∷ []) ≡ Err NotAllowed)
+    × (read_for_encoder (0xff ∷ []) ≡ Err NotAllowed)
+    × (read_for_encoder (0x3e ∷ []) ≡ Err NotAllowed)
+    × (read_for_decoder [] ≡ Err Truncated)
+    × (read_for_encoder [] ≡ Err Truncated)
+    × (read_for_decoder (0xbd ∷ 0x01 ∷ 0x00 ∷ []) ≡ Err NotAllowed)
+    × (read_for_decoder (0x3d ∷ []) ≡ Err NotAllowed)
+    × (read_for_encoder (0x7d ∷ []) ≡ Err NotAllowed)
+    × (read_for_encoder (0x7f ∷ []) ≡ Err Truncated)
 
 pub refusals : Refusals
 unfolding read_for_decoder read_for_encoder read_acknowledgement read_insert read_delete read_index read_int groups
@@ -67,7 +60,7 @@ refusals = (refl, refl, refl, refl, refl, refl, refl, refl, refl, refl)
 
 -- found at the place p
 abbrev Decoded : List ℕ → InstructionPlace → ℕ → Instruction → Type 0
-Decoded s p taken i = (read_for_decoder s ≡ Found p taken) × (instruction_of s p ≡ i)
+Decoded s p taken i = (read_for_decoder s ≡ Ok (p, taken)) × (instruction_of s p ≡ i)
 
 pub decoded : Decoded bytes (Insert (record { value = 62 }) (Text (plain_place 3 1)) (plain_place 5 1)) 6 inserted
 unfolding read_for_decoder read_insert read_index read_name read_string string_after string_end text_at string_bytes read_int groups
@@ -80,7 +73,7 @@ pub deleted : Decoded (0x3e ∷ 0x05 ∷ 0x00 ∷ 0x00 ∷ 0x00 ∷ [])
 unfolding read_for_decoder read_delete read_index read_list read_deltas read_delta streams_from read_int groups
 deleted = (refl, refl)
 
-pub acknowledged : (read_for_encoder (0x7e ∷ []) ≡ Found (Acknowledge (record { value = 62 })) 1)
-    × (read_for_encoder (0x7f ∷ 0x00 ∷ []) ≡ Found (Acknowledge (record { value = 63 })) 2)
+pub acknowledged : (read_for_encoder (0x7e ∷ []) ≡ Ok (Acknowledge (record { value = 62 }), 1))
+    × (read_for_encoder (0x7f ∷ 0x00 ∷ []) ≡ Ok (Acknowledge (record { value = 63 }), 2))
 unfolding read_for_encoder read_acknowledgement read_index read_int groups
 acknowledged = (refl, refl)

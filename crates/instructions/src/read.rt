@@ -1,13 +1,13 @@
 // One instruction read from the front of the given bytes, for each end.
 ghost use Rattle.std.specs.Prelude.{◌≡◌, ℕ, ◌≤◌};
-ghost use Rattle.instructions.specs.Reading.{index_answer, instruction_answer, read_index, read_insert, read_delete, read_acknowledgement, read_for_decoder, read_for_encoder};
+ghost use Rattle.instructions.specs.Reading.{read_index, read_insert, read_delete, read_acknowledgement, read_for_decoder, read_for_encoder};
 
-use integers::answer::{DONE, NOT_ALLOWED, TRUNCATED};
-use integers::integer::{IntRead, WireInt};
+use integers::answer::{Read, Refusal};
+use integers::integer::WireInt;
 use integers::number::TableIndex;
-use stream_lists::stream_list::{ListPlace, ListRead, read_list};
-use wire::name::{NamePlace, NameRead, read_name};
-use wire::text::{StringPlace, StringRead, VALUE_LIMIT, read_string};
+use stream_lists::stream_list::{ListPlace, read_list};
+use wire::name::{NamePlace, read_name};
+use wire::text::{StringPlace, VALUE_LIMIT, read_string};
 
 // The first bits of an instruction, in its first byte: 1 for an insert, 01 for an acknowledgement, 00 for a delete.
 pub const INSERT: u8 = 128;
@@ -27,134 +27,78 @@ pub enum InstructionPlace {
     Acknowledge(TableIndex),
 }
 
-// What reading an index finds: the index and the place after it, or the answer's number.
-#[derive(Drop)]
-pub enum IndexRead {
-    Index(TableIndex, usize),
-    Refused(u8),
-}
-
-// What reading an instruction finds: the instruction and how many bytes it took, or the answer's number.
-#[derive(Drop)]
-pub enum InstructionRead {
-    Found(InstructionPlace, usize),
-    Refused(u8),
-}
-
-impl IndexRead {
-    pub fn number(self) -> u8
-        ensures { result ≡ (index_answer self).number }
-    {
-        match self {
-            IndexRead::Index(_, _) => DONE,
-            IndexRead::Refused(number) => number,
-        }
-    }
-}
-
-impl InstructionRead {
-    pub fn number(self) -> u8
-        ensures { result ≡ (instruction_answer self).number }
-    {
-        match self {
-            InstructionRead::Found(_, _) => DONE,
-            InstructionRead::Refused(number) => number,
-        }
-    }
-}
-
 // The index at the front, with a prefix of `width` bits.
-fn read_index(s: &[u8], width: u32) -> IndexRead
+#[tactic(auto, unfolding(crate::specs::Reading::read_index))]
+fn read_index(s: &[u8], width: u32) -> Read<TableIndex>
     requires { (1 ≤ width) × (width ≤ 8) }
     ensures { result ≡ read_index width s.now }
 {
+    // Document 01: an integer or string answer is taken apart by `let .. else`.
     let r = WireInt::read(s, 0, width);
-    let IntRead::Value(n, next) = r else {
-        return IndexRead::Refused(r.number());
+    let Ok((n, next)) = r else {
+        return Err(r.unwrap_err());
     };
     let value = n.value;
     if value < TableIndex::FIRST {
-        return IndexRead::Refused(NOT_ALLOWED);
+        return Err(Refusal::NotAllowed);
     }
-    IndexRead::Index(TableIndex::new(value), next)
+    Ok((TableIndex::new(value), next))
 }
 
-fn read_insert(s: &[u8]) -> InstructionRead
+#[tactic(auto, unfolding(crate::specs::Reading::read_insert))]
+fn read_insert(s: &[u8]) -> Read<InstructionPlace>
     ensures { result ≡ read_insert s.now }
 {
-    let r = read_index(s, WireInt::PREFIX7);
-    let IndexRead::Index(index, next) = r else {
-        return InstructionRead::Refused(r.number());
-    };
-    let n = read_name(s, next, WireInt::PREFIX8);
-    let NameRead::Found(name, after) = n else {
-        return InstructionRead::Refused(n.number());
-    };
+    let (index, next) = read_index(s, WireInt::PREFIX7)?;
+    let (name, after) = read_name(s, next, WireInt::PREFIX8)?;
+    // By `let .. else`, as in `read_index`.
     let v = read_string(s, after, VALUE_LIMIT);
-    let StringRead::Found(value, taken) = v else {
-        return InstructionRead::Refused(v.number());
+    let Ok((value, taken)) = v else {
+        return Err(v.unwrap_err());
     };
-    InstructionRead::Found(InstructionPlace::Insert(index, name, value), taken)
+    Ok((InstructionPlace::Insert(index, name, value), taken))
 }
 
-fn read_delete(s: &[u8]) -> InstructionRead
+#[tactic(auto, unfolding(crate::specs::Reading::read_delete))]
+fn read_delete(s: &[u8]) -> Read<InstructionPlace>
     ensures { result ≡ read_delete s.now }
 {
-    let r = read_index(s, WireInt::PREFIX6);
-    let IndexRead::Index(index, next) = r else {
-        return InstructionRead::Refused(r.number());
-    };
-    let p = read_list(s, next);
-    let ListRead::Found(nontrailer, after) = p else {
-        return InstructionRead::Refused(p.number());
-    };
-    let t = read_list(s, after);
-    let ListRead::Found(trailer, taken) = t else {
-        return InstructionRead::Refused(t.number());
-    };
-    InstructionRead::Found(InstructionPlace::Delete(index, nontrailer, trailer), taken)
+    let (index, next) = read_index(s, WireInt::PREFIX6)?;
+    let (nontrailer, after) = read_list(s, next)?;
+    let (trailer, taken) = read_list(s, after)?;
+    Ok((InstructionPlace::Delete(index, nontrailer, trailer), taken))
 }
 
-fn read_acknowledgement(s: &[u8]) -> InstructionRead
+#[tactic(auto, unfolding(crate::specs::Reading::read_acknowledgement))]
+fn read_acknowledgement(s: &[u8]) -> Read<InstructionPlace>
     ensures { result ≡ read_acknowledgement s.now }
 {
-    let r = read_index(s, WireInt::PREFIX6);
-    let IndexRead::Index(index, taken) = r else {
-        return InstructionRead::Refused(r.number());
-    };
-    InstructionRead::Found(InstructionPlace::Acknowledge(index), taken)
+    let (index, taken) = read_index(s, WireInt::PREFIX6)?;
+    Ok((InstructionPlace::Acknowledge(index), taken))
 }
 
 // The decoder's reader: inserts and deletes.
-pub fn read_for_decoder(s: &[u8]) -> InstructionRead
+#[tactic(auto, unfolding(crate::specs::Reading::read_for_decoder))]
+pub fn read_for_decoder(s: &[u8]) -> Read<InstructionPlace>
     ensures { result ≡ read_for_decoder s.now }
 {
-    if s.len() == 0 {
-        return InstructionRead::Refused(TRUNCATED);
+    match s.first() {
+        None => Err(Refusal::Truncated),
+        Some(&first) if INSERT <= first => read_insert(s),
+        Some(&first) if ACKNOWLEDGE <= first => Err(Refusal::NotAllowed),
+        Some(_) => read_delete(s),
     }
-    let first = s[0];
-    if INSERT <= first {
-        return read_insert(s);
-    }
-    if ACKNOWLEDGE <= first {
-        return InstructionRead::Refused(NOT_ALLOWED);
-    }
-    read_delete(s)
 }
 
 // The encoder's reader: acknowledgements.
-pub fn read_for_encoder(s: &[u8]) -> InstructionRead
+#[tactic(auto, unfolding(crate::specs::Reading::read_for_encoder))]
+pub fn read_for_encoder(s: &[u8]) -> Read<InstructionPlace>
     ensures { result ≡ read_for_encoder s.now }
 {
-    if s.len() == 0 {
-        return InstructionRead::Refused(TRUNCATED);
+    match s.first() {
+        None => Err(Refusal::Truncated),
+        Some(&first) if INSERT <= first => Err(Refusal::NotAllowed),
+        Some(&first) if first < ACKNOWLEDGE => Err(Refusal::NotAllowed),
+        Some(_) => read_acknowledgement(s),
     }
-    let first = s[0];
-    if INSERT <= first {
-        return InstructionRead::Refused(NOT_ALLOWED);
-    }
-    if first < ACKNOWLEDGE {
-        return InstructionRead::Refused(NOT_ALLOWED);
-    }
-    read_acknowledgement(s)
 }

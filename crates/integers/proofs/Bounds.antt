@@ -13,19 +13,20 @@ use borrow.Author.Tests.{leb-true}
 use Rattle.memory.proofs.Order.{split, pick-both, need-both}
 use Rattle.integers.specs.Integer.{value, read_int, groups, finished, is_padded, largest}
 use Rattle.integers.specs.declared.integer.WireInt.{WireInt}
-use Rattle.integers.specs.declared.integer.IntRead.{IntRead}
-use Rattle.integers.specs.declared.integer.IntRead.TheVariants.{Value, Refused}
 use Rattle.integers.proofs.Groups.{groups-short, groups-last, groups-more, groups_none, read_int-short, read_int-small, read_int-groups}
+use Rattle.std.specs.Prelude.{Ok, Err}
+use Rattle.integers.specs.Answers.{Read}
+use Rattle.integers.specs.declared.answer.Refusal.TheVariants.{Padded, TooLarge}
 
 -- what an answer says of the number at the place at
-abbrev pub Good : List ℕ → ℕ → IntRead → Type 0
-Good s at (Value n next) = (at < next) × (next ≤ length s) × (n.value ≤ largest) × (next ≤ at + 5)
-Good s at (Refused number) = Unit {0}
+abbrev pub Good : List ℕ → ℕ → Read WireInt → Type 0
+Good s at (Ok (n, next)) = (at < next) × (next ≤ length s) × (n.value ≤ largest) × (next ≤ at + 5)
+Good s at (Err number) = Unit {0}
 
 good-finished : (s : List ℕ) (at b w v next : ℕ) → at < next → next ≤ length s → next ≤ at + 5 → Good s at (finished b w v next)
 good-finished s at b w v next h k l =
-    need-both (Good s at) (leb v largest) (Refused 3) _ (λ e. tt)
-    (λ e. pick-both (Good s at) (is_padded b w) (Refused 19) (value v next) (λ d. tt) (λ d. (h, k, leb-true v largest e, l)))
+    need-both (Good s at) (leb v largest) (Err TooLarge) _ (λ e. tt)
+    (λ e. pick-both (Good s at) (is_padded b w) (Err Padded) (value v next) (λ d. tt) (λ d. (h, k, leb-true v largest e, l)))
 
 -- groups of a number that began at the place from: there are at most four
 good-groups : (s : List ℕ) (n at v w from : ℕ) → from ≤ at → at + n ≤ from + 5 → Good s from (groups n s at v w)
@@ -49,6 +50,6 @@ good-int k s at h =
     (λ l. rw (read_int-short k s at l) tt)
 
 -- the same of an answer that is that number
-pub int-good : (k : ℕ) (s : List ℕ) (at : ℕ) → k ≤ 8 → (r : IntRead) → r ≡ read_int k s at → (n : WireInt) (next : ℕ) → r ≡ Value n next
+pub int-good : (k : ℕ) (s : List ℕ) (at : ℕ) → k ≤ 8 → (r : Read WireInt) → r ≡ read_int k s at → (n : WireInt) (next : ℕ) → r ≡ Ok (n, next)
     → (at < next) × (next ≤ length s) × (n.value ≤ largest) × (next ≤ at + 5)
 int-good k s at h r e n next d = subst (Good s at) (sym e ∙ d) (good-int k s at h)

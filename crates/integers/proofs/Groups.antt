@@ -11,7 +11,8 @@ use lib.ListN.{length, get_or}
 use borrow.Author.Tests.{lt-ltb, le-ltb, le-leb, lt-leb, ne_eqb}
 use Rattle.memory.proofs.Order.{split}
 use Rattle.integers.specs.Integer.{value, read_int, groups, finished, is_padded, largest}
-use Rattle.integers.specs.declared.integer.IntRead.TheVariants.{Value, Refused}
+use Rattle.std.specs.Prelude.{Ok, Err}
+use Rattle.integers.specs.declared.answer.Refusal.TheVariants.{Padded, TooLarge, Truncated}
 
 -- a last group that is not zero, or is the only one, is not padded
 not-padded : (b w : ℕ) → (1 < w → 0 < b) → is_padded b w ≡ false
@@ -19,17 +20,17 @@ not-padded zero w h = split 1 w (λ l. absurd (not-suc-le-zero (h l))) (λ l. le
 not-padded (suc b) w h = simp (ne_eqb (suc b) 0 (λ e. omega arith))
 
 module _ (b w v next : ℕ) where
-  pub finished-large : largest < v → finished b w v next ≡ Refused 3
+  pub finished-large : largest < v → finished b w v next ≡ Err TooLarge
   finished-large h = simp (lt-leb v largest h)
 
-  pub finished-padded : v ≤ largest → b ≡ 0 → 1 < w → finished b w v next ≡ Refused 19
+  pub finished-padded : v ≤ largest → b ≡ 0 → 1 < w → finished b w v next ≡ Err Padded
   finished-padded h e l = simp (le-leb v largest h, e, lt-ltb 1 w l)
 
   pub finished-value : v ≤ largest → (1 < w → 0 < b) → finished b w v next ≡ value v next
   finished-value h l = simp (le-leb v largest h, not-padded b w l)
 
 module _ (s : List ℕ) (at v w : ℕ) where
-  pub groups-short : (n : ℕ) → 0 < n → length s ≤ at → groups n s at v w ≡ Refused 2
+  pub groups-short : (n : ℕ) → 0 < n → length s ≤ at → groups n s at v w ≡ Err Truncated
   unfolding groups
   groups-short zero p h = absurd (not-suc-le-zero p)
   groups-short (suc n) p h = simp (le-ltb at (length s) h)
@@ -46,7 +47,7 @@ module _ (s : List ℕ) (at v w : ℕ) where
   groups-more zero p h b e k = absurd (not-suc-le-zero p)
   groups-more (suc n) p h b e k = simp (lt-ltb at (length s) h, ← e, le-ltb b 128 k, sub-one)
 
-pub groups_none : (s : List ℕ) (at v w n : ℕ) → n ≤ 0 → groups n s at v w ≡ Refused 3
+pub groups_none : (s : List ℕ) (at v w n : ℕ) → n ≤ 0 → groups n s at v w ≡ Err TooLarge
 unfolding groups
 groups_none s at v w zero p = refl
 groups_none s at v w (suc n) p = absurd (not-suc-le-zero p)
@@ -68,12 +69,12 @@ weight-next w (suc l) p e =
     rw sub-one (omega arith)
 
 module _ (k : ℕ) (s : List ℕ) (at : ℕ) where
-  pub read_int-short : length s ≤ at → read_int k s at ≡ Refused 2
+  pub read_int-short : length s ≤ at → read_int k s at ≡ Err Truncated
   unfolding read_int
   read_int-short h = simp (le-ltb at (length s) h)
 
   pub read_int-small : at < length s → (b f : ℕ) → b ≡ get_or s at 0 → f ≡ 2 ^ k → b % f < f - 1
-      → read_int k s at ≡ Value (record { value = b % f }) (at + 1)
+      → read_int k s at ≡ Ok (record { value = b % f }, at + 1)
   unfolding read_int
   read_int-small h b f e g l = simp (lt-ltb at (length s) h, ← e, ← g, lt-ltb (b % f) (f - 1) l)
 

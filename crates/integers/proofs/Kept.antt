@@ -9,16 +9,22 @@ use lib.ListN.{length, get_or, length-append, get_or-append}
 use lib.Dec.{ltb}
 use borrow.Author.Tests.{lt-ltb, ltb-true}
 use Rattle.memory.specs.Choice.{pick, need}
-use Rattle.integers.specs.Integer.{int_answer, on_int, value, read_int, groups, finished}
-use Rattle.integers.specs.declared.integer.IntRead.{IntRead}
-use Rattle.integers.specs.declared.integer.IntRead.TheVariants.{Value, Refused}
+use Rattle.integers.specs.Integer.{on_int, value, read_int, groups, finished}
+use Rattle.std.specs.Prelude.{Result, Ok, Err}
+use Rattle.integers.specs.Answers.{Read, on_read, number_of}
+use Rattle.integers.specs.declared.answer.Refusal.{Refusal}
+use Rattle.integers.specs.declared.answer.Refusal.TheVariants.{TooLarge, Truncated}
+use Rattle.integers.specs.declared.integer.WireInt.{WireInt}
+use Rattle.integers.proofs.Refusals.{only_truncated}
 
 -- x is answered of some bytes, and y of the same with others behind; `number` gives the answer's number
 pub record Kept {X : Type 0} (number : X → ℕ) (x y : X) : Type 0 where
   pub same : (number x ≡ 2 → ⊥) → y ≡ x
 
-abbrev pub int_number : IntRead → ℕ
-int_number r = (int_answer r).number
+-- the number of what a reader answers: 0 where it found something
+abbrev pub answer_number : {Y : Type 0} → Result Y Refusal → ℕ
+answer_number (Ok y) = 0
+answer_number (Err why) = number_of why
 
 pub byte-kept : (s t : List ℕ) (at : ℕ) → at < length s → get_or (s ++ t) at 0 ≡ get_or s at 0
 byte-kept s t at h = get_or-append s t 0 at h
@@ -60,29 +66,33 @@ module _ {X : Type 0} (number : X → ℕ) where
         last z false = refl
 
   -- a reader, then what follows
-  module _ (refused : ℕ → X) (two : number (refused 2) ≡ 2) where
+  module _ (refused : Refusal → X) (two : number (refused Truncated) ≡ 2) where
     -- a refusal other than 2, passed on, is other than 2
-    pub passed_on : (m : ℕ) → (number (refused m) ≡ 2 → ⊥) → m ≡ 2 → ⊥
-    passed_on m d z = d (ap (λ (n : ℕ). number (refused n)) z ∙ two)
+    pub passed_on : (why : Refusal) → (number (refused why) ≡ 2 → ⊥) → number_of why ≡ 2 → ⊥
+    passed_on why d z = d (ap (λ (w : Refusal). number (refused w)) (only_truncated why z) ∙ two)
 
-    pub kept-on-int : (r r' : IntRead) {f g : ℕ → ℕ → X} → Kept int_number r r'
+    pub kept-on-read : {Y : Type 0} (r r' : Read Y) {f g : Y → ℕ → X} → Kept answer_number r r'
+        → ((y : Y) (next : ℕ) → r ≡ Ok (y, next) → Kept number (f y next) (g y next)) → Kept number (on_read refused r f) (on_read refused r' g)
+    kept-on-read (Ok (y, next)) r' h k = record { same = λ d. rw (h.same (λ z. omega arith)) ((k y next refl).same d) }
+    kept-on-read (Err why) r' h k = record { same = λ d. rw (h.same (passed_on why d)) refl }
+
+    pub kept-on-int : (r r' : Read WireInt) {f g : ℕ → ℕ → X} → Kept answer_number r r'
         → ((v next : ℕ) → r ≡ value v next → Kept number (f v next) (g v next)) → Kept number (on_int refused r f) (on_int refused r' g)
-    kept-on-int (Value n next) r' h k = record { same = λ d. rw (h.same (λ z. omega arith)) ((k n.value next refl).same d) }
-    kept-on-int (Refused m) r' h k = record { same = λ d. rw (h.same (passed_on m d)) refl }
+    kept-on-int r r' h k = kept-on-read r r' h (λ n next e. k n.value next e)
 
-groups-kept : (n : ℕ) (s t : List ℕ) (at v w : ℕ) → Kept int_number (groups n s at v w) (groups n (s ++ t) at v w)
+groups-kept : (n : ℕ) (s t : List ℕ) (at v w : ℕ) → Kept answer_number (groups n s at v w) (groups n (s ++ t) at v w)
 unfolding groups
-groups-kept zero s t at v w = kept_same int_number (Refused 3)
+groups-kept zero s t at v w = kept_same answer_number (Err TooLarge)
 groups-kept (suc n) s t at v w =
-    kept_there int_number (Refused 2) refl s t at (λ h.
+    kept_there answer_number (Err Truncated) refl s t at (λ h.
     rw (byte-kept s t at h)
-    (kept-pick int_number (ltb (get_or s at 0) 128) (kept_same int_number (finished (get_or s at 0) w (v + get_or s at 0 % 128 * w) (at + 1)))
+    (kept-pick answer_number (ltb (get_or s at 0) 128) (kept_same answer_number (finished (get_or s at 0) w (v + get_or s at 0 % 128 * w) (at + 1)))
     (groups-kept n s t (at + 1) (v + get_or s at 0 % 128 * w) (w * 128))))
 
-pub int-kept : (k : ℕ) (s t : List ℕ) (at : ℕ) → Kept int_number (read_int k s at) (read_int k (s ++ t) at)
+pub int-kept : (k : ℕ) (s t : List ℕ) (at : ℕ) → Kept answer_number (read_int k s at) (read_int k (s ++ t) at)
 unfolding read_int
 int-kept k s t at =
-    kept_there int_number (Refused 2) refl s t at (λ h.
+    kept_there answer_number (Err Truncated) refl s t at (λ h.
     rw (byte-kept s t at h)
-    (kept-pick int_number (ltb (get_or s at 0 % 2 ^ k) (2 ^ k - 1)) (kept_same int_number (value (get_or s at 0 % 2 ^ k) (at + 1)))
+    (kept-pick answer_number (ltb (get_or s at 0 % 2 ^ k) (2 ^ k - 1)) (kept_same answer_number (value (get_or s at 0 % 2 ^ k) (at + 1)))
     (groups-kept 4 s t (at + 1) (get_or s at 0 % 2 ^ k) 1)))

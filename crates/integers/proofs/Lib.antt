@@ -5,6 +5,7 @@ pub mod Back
 pub mod Lengths
 pub mod OneForm
 pub mod Padding
+pub mod Refusals
 pub mod Short
 pub mod Kept
 pub mod Vectors

@@ -16,26 +16,29 @@ use Rattle.memory.specs.Bytes.{part, Has, Small}
 use Rattle.memory.proofs.Order.{split, pick-both, need-both, not-both}
 use Rattle.memory.proofs.Places.{has_part, has_all, part-all}
 use Rattle.integers.specs.Integer.{IntForm, value, read_int, groups, is_padded, finished, largest, int_wire, group_wire}
-use Rattle.integers.specs.declared.integer.IntRead.{IntRead}
-use Rattle.integers.specs.declared.integer.IntRead.TheVariants.{Value, Refused}
 use Rattle.integers.proofs.Groups.{groups-short, groups-last, groups-more, groups_none, read_int-short, read_int-small, read_int-groups}
 use Rattle.integers.proofs.Writing.{last-group, next-group, int-in-prefix, int-past-prefix}
 use Rattle.integers.proofs.Lengths.{int-bytes-small, first_byte}
 use Rattle.integers.proofs.Back.{int-back}
+use Rattle.std.specs.Prelude.{Ok, Err}
+use Rattle.integers.specs.Answers.{Read}
+use Rattle.integers.specs.declared.answer.Refusal.{Refusal}
+use Rattle.integers.specs.declared.answer.Refusal.TheVariants.{Padded, TooLarge, Truncated}
+use Rattle.integers.specs.declared.integer.WireInt.{WireInt}
 
 value_same : {v v' n n' : ℕ} → value v n ≡ value v' n' → (v ≡ v') × (n ≡ n')
 value_same {v} {v'} {n} {n'} e = (ap value_of e, ap next_of e)
   where
-    value_of : IntRead → ℕ
-    value_of (Value m next) = m.value
-    value_of (Refused number) = 0
+    value_of : Read WireInt → ℕ
+    value_of (Ok (m, next)) = m.value
+    value_of (Err number) = 0
 
-    next_of : IntRead → ℕ
-    next_of (Value m next) = next
-    next_of (Refused number) = 0
+    next_of : Read WireInt → ℕ
+    next_of (Ok (m, next)) = next
+    next_of (Err number) = 0
 
-refused-value {ℓ} : {X : Type ℓ} (m v n : ℕ) → Refused m ≡ value v n → X
-refused-value m v n e = let z : ◌≡◌ {A = ℕ} 0 1 = cc in absurd (omega arith)
+refused-value {ℓ} : {X : Type ℓ} (why : Refusal) (v n : ℕ) → Err why ≡ value v n → X
+refused-value why v n e = let z : ◌≡◌ {A = ℕ} 0 1 = cc in absurd (omega arith)
 
 -- an integer that is read is not padded
 unpadded : (b w : ℕ) → is_padded b w ≡ false → 1 < w → 0 < b
@@ -43,14 +46,14 @@ unpadded zero w e l = not-both (ltb 1 w) (lt-ltb 1 w l) e
 unpadded (suc b) w e l = omega arith
 
 module _ (b w u m v n : ℕ) where
-  abbrev Same : IntRead → Type 0
+  abbrev Same : Read WireInt → Type 0
   Same r = r ≡ value v n → (u ≡ v) × (m ≡ n) × (1 < w → 0 < b)
 
   finished-same : finished b w u m ≡ value v n → (u ≡ v) × (m ≡ n) × (1 < w → 0 < b)
   finished-same =
-      need-both Same (leb u largest) (Refused 3) _ (λ e d. refused-value 3 v n d)
-      (λ e. pick-both Same (is_padded b w) (Refused 19) (value u m)
-      (λ p d. refused-value 19 v n d)
+      need-both Same (leb u largest) (Err TooLarge) _ (λ e d. refused-value TooLarge v n d)
+      (λ e. pick-both Same (is_padded b w) (Err Padded) (value u m)
+      (λ p d. refused-value Padded v n d)
       (λ p d. let q = value_same d in (q.0, q.1, unpadded b w p)))
 
 -- the value x was read from v by groups of weight w that say r, and these groups are the writer's
@@ -92,8 +95,8 @@ module _ (s : List ℕ) (small : Small s) where
       split at (length s)
       (λ l. split (get_or s at 0) 128
       (λ k. last-stands s zero at v w x next l k e)
-      (λ k. refused-value 3 x next (sym (groups-more s at v w 1 (omega arith) l _ refl k ∙ groups_none s _ _ _ _ (omega arith)) ∙ e)))
-      (λ l. refused-value 2 x next (sym (groups-short s at v w 1 (omega arith) l) ∙ e))
+      (λ k. refused-value TooLarge x next (sym (groups-more s at v w 1 (omega arith) l _ refl k ∙ groups_none s _ _ _ _ (omega arith)) ∙ e)))
+      (λ l. refused-value Truncated x next (sym (groups-short s at v w 1 (omega arith) l) ∙ e))
   groups-stand (suc n) at v w x next p e =
       split at (length s)
       (λ l. split (get_or s at 0) 128
@@ -101,7 +104,7 @@ module _ (s : List ℕ) (small : Small s) where
       (λ k. more-stands s n at v w x next l (get_or s at 0) refl k (small at) p
       (groups-stand n (at + 1) (v + get_or s at 0 % 128 * w) (w * 128) x next (omega arith)
       (sym (rw sub-one at (groups-more s at v w (suc (suc n)) (omega arith) l _ refl k)) ∙ e))))
-      (λ l. refused-value 2 x next (sym (groups-short s at v w (suc (suc n)) (omega arith) l) ∙ e))
+      (λ l. refused-value Truncated x next (sym (groups-short s at v w (suc (suc n)) (omega arith) l) ∙ e))
 
   -- what was read at a place stands there as the writer writes it, below the bits above the prefix
   pub int-stands : (k at v next : ℕ) → read_int k s at ≡ value v next
@@ -109,7 +112,7 @@ module _ (s : List ℕ) (small : Small s) where
   int-stands k at v next e =
       split at (length s)
       (λ l. split (b % 2 ^ k) (2 ^ k - 1) (one l) (more l))
-      (λ l. refused-value 2 v next (sym (read_int-short k s at l) ∙ e))
+      (λ l. refused-value Truncated v next (sym (read_int-short k s at l) ∙ e))
     where
       b : ℕ
       b = get_or s at 0

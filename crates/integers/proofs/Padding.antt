@@ -12,10 +12,12 @@ use lib.Dec.{leb, ltb, eqb}
 use lib.Pow.{pow_pos, pow_mono}
 use borrow.Author.Tests.{ltb-true, eqb-true}
 use Rattle.memory.proofs.Order.{split, pick-both, need-both, not-both}
-use Rattle.integers.specs.Answers.{padded}
-use Rattle.integers.specs.Integer.{PaddedInt, value, read_int, groups, is_padded, finished, largest}
-use Rattle.integers.specs.declared.integer.IntRead.{IntRead}
-use Rattle.integers.specs.declared.integer.IntRead.TheVariants.{Value, Refused}
+use Rattle.integers.specs.Answers.{padded, number_of, Read}
+use Rattle.integers.specs.declared.answer.Refusal.{Refusal}
+use Rattle.integers.specs.Integer.{PaddedInt, int_answer, value, read_int, groups, is_padded, finished, largest}
+use Rattle.std.specs.Prelude.{Err}
+use Rattle.integers.specs.declared.answer.Refusal.TheVariants.{Truncated, Padded, TooLarge}
+use Rattle.integers.specs.declared.integer.WireInt.{WireInt}
 use Rattle.integers.proofs.Groups.{
   finished-padded,
   group-small,
@@ -41,15 +43,11 @@ record Met (s : List ℕ) (m at w : ℕ) : Type 0 where
   few : before < m
   zeros : Zero s before at w
 
-other-refused {ℓ} : {X : Type ℓ} (m : ℕ) → m < padded → Refused m ≡ Refused padded → X
-other-refused m l e = absurd (omega (arith, ap number_of e))
-  where
-    number_of : IntRead → ℕ
-    number_of (Value n next) = 0
-    number_of (Refused number) = number
+other-refused {ℓ} : {X : Type ℓ} (why : Refusal) → number_of why < padded → ◌≡◌ {A = Read WireInt} (Err why) (Err Padded) → X
+other-refused why l e = absurd (omega (arith, ap (λ (r : Read WireInt). (int_answer r).number) e))
 
-value-refused {ℓ} : {X : Type ℓ} (v next m : ℕ) → value v next ≡ Refused m → X
-value-refused v next m e = let z : ◌≡◌ {A = ℕ} 0 1 = cc in absurd (omega arith)
+value-refused {ℓ} : {X : Type ℓ} (v next : ℕ) (why : Refusal) → value v next ≡ Err why → X
+value-refused v next why e = let z : ◌≡◌ {A = ℕ} 0 1 = cc in absurd (omega arith)
 
 padded-zero : (b w : ℕ) → is_padded b w ≡ true → (b ≡ 0) × (1 < w)
 padded-zero b w =
@@ -57,13 +55,13 @@ padded-zero b w =
     (λ d e. (eqb-true b 0 d, ltb-true 1 w e)) (λ d e. not-both false e refl)
 
 module _ (b w v next : ℕ) where
-  abbrev Last : IntRead → Type 0
-  Last r = r ≡ Refused padded → (b ≡ 0) × (1 < w)
+  abbrev Last : Read WireInt → Type 0
+  Last r = r ≡ Err Padded → (b ≡ 0) × (1 < w)
 
-  finished-zero : finished b w v next ≡ Refused padded → (b ≡ 0) × (1 < w)
+  finished-zero : finished b w v next ≡ Err Padded → (b ≡ 0) × (1 < w)
   finished-zero =
-      need-both Last (leb v largest) (Refused 3) _ (λ e d. other-refused 3 (omega arith) d)
-      (λ e. pick-both Last (is_padded b w) (Refused 19) (value v next) (λ p d. padded-zero b w p) (λ p d. value-refused v next padded d))
+      need-both Last (leb v largest) (Err TooLarge) _ (λ e d. other-refused TooLarge (omega arith) d)
+      (λ e. pick-both Last (is_padded b w) (Err Padded) (value v next) (λ p d. padded-zero b w p) (λ p d. value-refused v next Padded d))
 
 module _ (s : List ℕ) where
   zero-next : (n at w : ℕ) → Zero s (suc n) at w → Zero s n (at + 1) (w * 128)
@@ -94,7 +92,7 @@ module _ (s : List ℕ) where
       follow (suc i) l = rw (a i) (z.follow i (omega arith))
 
   -- with m turns left and a zero after n groups
-  groups-padded : (n m at v w : ℕ) → n < m → v < 255 + w → w * 128 ^ n ≤ 2 ^ 21 → Zero s n at w → groups m s at v w ≡ Refused padded
+  groups-padded : (n m at v w : ℕ) → n < m → v < 255 + w → w * 128 ^ n ≤ 2 ^ 21 → Zero s n at w → groups m s at v w ≡ Err Padded
   groups-padded zero m at v w l h k z =
       let a : at + 0 ≡ at = omega arith in
       let e : get_or s at 0 ≡ 0 = rw a at z.last in
@@ -108,8 +106,8 @@ module _ (s : List ℕ) where
       groups-more s at v w m (omega arith) (omega (arith, z.inside)) b refl more
       ∙ groups-padded n (m - 1) (at + 1) (v + b % 128 * w) (w * 128) (omega arith) (omega (arith, group-small b w)) (omega arith) (zero-next n at w z)
 
-  padded-groups : (m at v w : ℕ) → groups m s at v w ≡ Refused padded → Met s m at w
-  padded-groups zero at v w e = other-refused 3 (omega arith) (sym (groups_none s at v w 0 (omega arith)) ∙ e)
+  padded-groups : (m at v w : ℕ) → groups m s at v w ≡ Err Padded → Met s m at w
+  padded-groups zero at v w e = other-refused TooLarge (omega arith) (sym (groups_none s at v w 0 (omega arith)) ∙ e)
   padded-groups (suc m) at v w e =
       let b : ℕ = get_or s at 0 in
       split at (length s)
@@ -121,10 +119,10 @@ module _ (s : List ℕ) where
       let next = rw sub-one at (groups-more s at v w (suc m) (omega arith) l b refl k) in
       let t = padded-groups m (at + 1) (v + b % 128 * w) (w * 128) (sym next ∙ e) in
       record { before = suc t.before; few = omega (arith, t.few); zeros = zero-before t.before at w k t.zeros }))
-      (λ l. other-refused 2 (omega arith) (sym (groups-short s at v w (suc m) (omega arith) l) ∙ e))
+      (λ l. other-refused Truncated (omega arith) (sym (groups-short s at v w (suc m) (omega arith) l) ∙ e))
 
 -- "A wire integer whose last group is zero, and is not its only group, .. gets .. answer 19": for every width, whatever stands behind it
-pub padded-refused : (k : ℕ) (s : List ℕ) (at : ℕ) → k ≤ 8 → PaddedInt k s at → read_int k s at ≡ Refused padded
+pub padded-refused : (k : ℕ) (s : List ℕ) (at : ℕ) → k ≤ 8 → PaddedInt k s at → read_int k s at ≡ Err Padded
 padded-refused k s at h p =
     let b : ℕ = get_or s at 0 in
     let n : ℕ = p.before in
@@ -136,12 +134,12 @@ padded-refused k s at h p =
     (record { follow = p.follow; last = p.last; inside = p.inside; heavy = omega arith })
 
 -- and no other integer gets it
-pub refused-padded : (k : ℕ) (s : List ℕ) (at : ℕ) → read_int k s at ≡ Refused padded → PaddedInt k s at
+pub refused-padded : (k : ℕ) (s : List ℕ) (at : ℕ) → read_int k s at ≡ Err Padded → PaddedInt k s at
 refused-padded k s at e =
     let b : ℕ = get_or s at 0 in
     split at (length s)
     (λ l. split (b % 2 ^ k) (2 ^ k - 1)
-    (λ d. value-refused (b % 2 ^ k) (at + 1) padded (sym (read_int-small k s at l b (2 ^ k) refl refl d) ∙ e))
+    (λ d. value-refused (b % 2 ^ k) (at + 1) Padded (sym (read_int-small k s at l b (2 ^ k) refl refl d) ∙ e))
     (λ d.
     let f : b % 2 ^ k < 2 ^ k = mod-lt b (pow_pos k) in
     let t = padded-groups s 4 (at + 1) (b % 2 ^ k) 1 (sym (read_int-groups k s at l b (2 ^ k) refl refl d) ∙ e) in
@@ -154,7 +152,7 @@ refused-padded k s at e =
       last = t.zeros.last;
       inside = t.zeros.inside;
     }))
-    (λ l. other-refused 2 (omega arith) (sym (read_int-short k s at l) ∙ e))
+    (λ l. other-refused Truncated (omega arith) (sym (read_int-short k s at l) ∙ e))
   where
     several : (n : ℕ) → 1 < 1 * 128 ^ n → 1 ≤ n
     several zero h = omega arith

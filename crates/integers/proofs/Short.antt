@@ -10,39 +10,37 @@ use borrow.Author.Tests.{lt-ltb, le-ltb}
 use Rattle.memory.proofs.Order.{split}
 use Rattle.integers.specs.Integer.{read_int, finished, short_int_at}
 use Rattle.integers.specs.declared.integer.WireInt.{WireInt}
-use Rattle.integers.specs.declared.integer.IntRead.TheVariants.{Value as IntValue}
-use Rattle.integers.specs.declared.integer.ShortInt.{ShortInt}
-use Rattle.integers.specs.declared.integer.ShortInt.TheVariants.{Value, Other}
 use Rattle.integers.proofs.Groups.{finished-value, groups-last, read_int-small, read_int-groups}
+use Rattle.std.specs.Prelude.{Ok, Option, Some, None}
 
 module _ (k : ℕ) (s : List ℕ) (at : ℕ) where
-  pub short-int-none : length s ≤ at → short_int_at k s at ≡ Other
+  pub short-int-none : length s ≤ at → short_int_at k s at ≡ None
   unfolding short_int_at
   short-int-none h = simp (le-ltb at (length s) h)
 
   module _ (h : at < length s) (b f : ℕ) (e : b ≡ get_or s at 0) (g : f ≡ 2 ^ k) where
-    pub short-int-one : b % f < f - 1 → short_int_at k s at ≡ Value (record { value = b % f }) (at + 1)
+    pub short-int-one : b % f < f - 1 → short_int_at k s at ≡ Some (record { value = b % f }, at + 1)
     unfolding short_int_at
     short-int-one l = simp (lt-ltb at (length s) h, ← e, ← g, lt-ltb (b % f) (f - 1) l)
 
     module _ (l : f - 1 ≤ b % f) where
-      pub short-int-cut : length s ≤ at + 1 → short_int_at k s at ≡ Other
+      pub short-int-cut : length s ≤ at + 1 → short_int_at k s at ≡ None
       unfolding short_int_at
       short-int-cut c = simp (lt-ltb at (length s) h, ← e, ← g, le-ltb (b % f) (f - 1) l, le-ltb (at + 1) (length s) c)
 
       module _ (m : at + 1 < length s) (x : ℕ) (d : x ≡ get_or s (at + 1) 0) where
-        pub short-int-long : 128 ≤ x → short_int_at k s at ≡ Other
+        pub short-int-long : 128 ≤ x → short_int_at k s at ≡ None
         unfolding short_int_at
         short-int-long n = simp (lt-ltb at (length s) h, ← e, ← g, le-ltb (b % f) (f - 1) l, lt-ltb (at + 1) (length s) m, ← d, le-ltb x 128 n)
 
-        pub short-int-two : x < 128 → short_int_at k s at ≡ Value (record { value = b % f + x }) (at + 1 + 1)
+        pub short-int-two : x < 128 → short_int_at k s at ≡ Some (record { value = b % f + x }, at + 1 + 1)
         unfolding short_int_at
         short-int-two n = simp (lt-ltb at (length s) h, ← e, ← g, le-ltb (b % f) (f - 1) l, lt-ltb (at + 1) (length s) m, ← d, lt-ltb x 128 n)
 
   -- what is said of the number at the place at is what reading finds there; 0 takes one byte
-  abbrev Good : ShortInt → Type 0
-  Good (Value n next) = (read_int k s at ≡ IntValue n next) × (n.value ≡ 0 → next ≡ at + 1)
-  Good Other = Unit {0}
+  abbrev Good : Option (WireInt × ℕ) → Type 0
+  Good (Some (n, next)) = (read_int k s at ≡ Ok (n, next)) × (n.value ≡ 0 → next ≡ at + 1)
+  Good None = Unit {0}
 
   good : 1 ≤ k → k ≤ 8 → Good (short_int_at k s at)
   good u w =
@@ -68,6 +66,6 @@ module _ (k : ℕ) (s : List ℕ) (at : ℕ) where
       (λ m. rw (short-int-cut h b (2 ^ k) refl refl l m) tt)))
       (λ h. rw (short-int-none h) tt)
 
-  pub short-int-reads : 1 ≤ k → k ≤ 8 → (n : WireInt) (next : ℕ) → short_int_at k s at ≡ Value n next
-      → (read_int k s at ≡ IntValue n next) × (n.value ≡ 0 → next ≡ at + 1)
+  pub short-int-reads : 1 ≤ k → k ≤ 8 → (n : WireInt) (next : ℕ) → short_int_at k s at ≡ Some (n, next)
+      → (read_int k s at ≡ Ok (n, next)) × (n.value ≡ 0 → next ≡ at + 1)
   short-int-reads u w n next e = subst Good e (good u w)

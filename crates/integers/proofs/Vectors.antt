@@ -3,7 +3,8 @@
 use mathlib.Core.Path.{◌≡◌, refl}
 use mathlib.Core.List.{[], ◌∷◌}
 use Rattle.integers.specs.Integer.{value, read_int, groups, int_wire, group_wire}
-use Rattle.integers.specs.declared.integer.IntRead.TheVariants.{Refused}
+use Rattle.std.specs.Prelude.{Err}
+use Rattle.integers.specs.declared.answer.Refusal.TheVariants.{Padded, TooLarge, Truncated}
 
 abbrev Written : Type 0
 Written = (int_wire 5 0 10 ≡ 0x0a ∷ [])
@@ -26,17 +27,17 @@ Reading = (read_int 5 (0x0a ∷ []) 0 ≡ value 10 1)
     × (read_int 8 (0x2a ∷ []) 0 ≡ value 42 1)
     × (read_int 7 (0xff ∷ 0x00 ∷ []) 0 ≡ value 127 2)
     × (read_int 7 (0xff ∷ 0x80 ∷ 0xff ∷ 0xff ∷ 0x3f ∷ []) 0 ≡ value 134217727 5)
-    × (read_int 7 (0xff ∷ 0x81 ∷ 0xff ∷ 0xff ∷ 0x3f ∷ []) 0 ≡ Refused 3)
+    × (read_int 7 (0xff ∷ 0x81 ∷ 0xff ∷ 0xff ∷ 0x3f ∷ []) 0 ≡ Err TooLarge)
     × (read_int 6 (0x3e ∷ []) 0 ≡ value 62 1)
     × (read_int 6 (0x3f ∷ 0x00 ∷ []) 0 ≡ value 63 2)
     × (read_int 6 (0x7e ∷ []) 0 ≡ value 62 1)
     × (read_int 6 (0x7f ∷ 0x00 ∷ []) 0 ≡ value 63 2)
-    × (read_int 7 (0xff ∷ 0x80 ∷ 0x80 ∷ 0x80 ∷ []) 0 ≡ Refused 2)
-    × (read_int 7 (0xff ∷ 0x80 ∷ 0x80 ∷ 0x80 ∷ 0x80 ∷ []) 0 ≡ Refused 3)
-    × (read_int 7 (0xff ∷ 0x80 ∷ []) 0 ≡ Refused 2)
-    × (read_int 7 (0xff ∷ 0x80 ∷ 0x00 ∷ []) 0 ≡ Refused 19)
-    × (read_int 7 (0xff ∷ 0xff ∷ 0x00 ∷ []) 0 ≡ Refused 19)
-    × (read_int 7 (0xff ∷ 0x80 ∷ 0x80 ∷ 0x80 ∷ 0x00 ∷ []) 0 ≡ Refused 19)
+    × (read_int 7 (0xff ∷ 0x80 ∷ 0x80 ∷ 0x80 ∷ []) 0 ≡ Err Truncated)
+    × (read_int 7 (0xff ∷ 0x80 ∷ 0x80 ∷ 0x80 ∷ 0x80 ∷ []) 0 ≡ Err TooLarge)
+    × (read_int 7 (0xff ∷ 0x80 ∷ []) 0 ≡ Err Truncated)
+    × (read_int 7 (0xff ∷ 0x80 ∷ 0x00 ∷ []) 0 ≡ Err Padded)
+    × (read_int 7 (0xff ∷ 0xff ∷ 0x00 ∷ []) 0 ≡ Err Padded)
+    × (read_int 7 (0xff ∷ 0x80 ∷ 0x80 ∷ 0x80 ∷ 0x00 ∷ []) 0 ≡ Err Padded)
     × (read_int 7 (0xff ∷ 0x80 ∷ 0x01 ∷ []) 0 ≡ value 255 3)
     × (read_int 7 (0xff ∷ 0x80 ∷ 0x80 ∷ 0x01 ∷ []) 0 ≡ value 16511 4)
 

@@ -1,6 +1,8 @@
--- The numbered table of document 01. Every answer enum has one definition, in the file of its reader, that gives its case as an `Answer`.
-use Rattle.std.specs.Prelude.{ℕ, Bool, true, false, List, [], ◌∷◌, eqb}
+-- The numbered table of document 01. Every reader has one definition, in its file, that gives each case of what it answers as an `Answer`.
+use Rattle.std.specs.Prelude.{ℕ, Bool, true, false, List, [], ◌∷◌, eqb, Result, Ok, Err}
 use Rattle.memory.specs.Choice.{pick}
+use Rattle.integers.specs.declared.answer.Refusal.{Refusal}
+use Rattle.integers.specs.declared.answer.Refusal.TheVariants.{Truncated, TooLarge, NotAllowed, Held, OverLimit, Vacant, UnderDeletion, NotUnderDeletion, OutOfTurn, NoRoom, TooLong, BadStreamList, BadFieldList, NoState, BadPacking, Padded}
 
 -- an answer: its number, and the numbers told with it. "A told number not named here for the answer is 0."
 pub record Answer : Type 0 where
@@ -87,6 +89,44 @@ bad_packing = 18
 -- a wire integer whose last group is zero, and is not its only group
 abbrev pub padded : ℕ
 padded = 19
+
+-- the number of a refusal
+abbrev pub number_of : Refusal → ℕ
+number_of Truncated = truncated
+number_of TooLarge = too_large
+number_of NotAllowed = not_allowed
+number_of Held = held
+number_of OverLimit = over_limit
+number_of Vacant = vacant
+number_of UnderDeletion = under_deletion
+number_of NotUnderDeletion = not_under_deletion
+number_of OutOfTurn = out_of_turn
+number_of NoRoom = no_room
+number_of TooLong = too_long
+number_of BadStreamList = bad_stream_list
+number_of BadFieldList = bad_field_list
+number_of NoState = no_state
+number_of BadPacking = bad_packing
+number_of Padded = padded
+
+-- the number of a check: 0 where nothing is refused
+abbrev pub checked_number : Result (Unit {0}) Refusal → ℕ
+checked_number (Ok x) = 0
+checked_number (Err why) = number_of why
+
+-- what a reader answers: what it found and the place after it, or why it refuses
+abbrev pub Read : Type 0 → Type 0
+Read X = Result (X × ℕ) Refusal
+
+-- what is told of it: two numbers, or the refusal's number alone
+abbrev pub read_answer : {X : Type 0} → (X → ℕ → Answer) → Read X → Answer
+read_answer told (Ok found) = told found.0 found.1
+read_answer told (Err why) = refusal (number_of why)
+
+-- what follows what was found and the place after it, or the refusal passed on at once
+abbrev pub on_read {ℓ} : {X : Type 0} {Y : Type ℓ} → (Refusal → Y) → Read X → (X → ℕ → Y) → Y
+on_read refused (Ok found) f = f found.0 found.1
+on_read refused (Err why) f = refused why
 
 -- is n among these numbers?
 abbrev pub among : List ℕ → ℕ → Bool

@@ -1,40 +1,15 @@
 // Numbers on the wire: the prefix integers of RFC 7541, 5.1, with at most four groups.
 ghost use Rattle.std.specs.Prelude.{◌≡◌, ℕ, ◌+◌, ◌*◌, ◌^◌, ◌<◌, ◌≤◌, length};
 ghost use Rattle.memory.specs.Bytes.{overlay};
-ghost use Rattle.integers.specs.Integer.{int_answer, read_int, finished, groups, largest, short_int_at, int_wire, group_wire};
+ghost use Rattle.integers.specs.Integer.{read_int, finished, groups, largest, short_int_at, int_wire, group_wire};
 
-use crate::answer::{DONE, PADDED, TOO_LARGE, TRUNCATED};
+use crate::answer::{Read, Refusal};
 use crate::byte::wide;
 
 // A number that a prefix integer can say.
 #[derive(Drop)]
 pub struct WireInt {
     pub value: u32,
-}
-
-// What reading one finds: the number and the place after it, or the answer's number.
-#[derive(Drop)]
-pub enum IntRead {
-    Value(WireInt, usize),
-    Refused(u8),
-}
-
-// What looking for a short one finds: the number and the place after it, or that none stands there.
-#[derive(Drop)]
-pub enum ShortInt {
-    Value(WireInt, usize),
-    Other,
-}
-
-impl IntRead {
-    pub fn number(self) -> u8
-        ensures { result ≡ (int_answer self).number }
-    {
-        match self {
-            IntRead::Value(_, _) => DONE,
-            IntRead::Refused(number) => number,
-        }
-    }
 }
 
 fn power(width: u32) -> u32
@@ -45,7 +20,7 @@ fn power(width: u32) -> u32
 }
 
 impl WireInt {
-    // The three prefix widths of the draft's places.
+    // The three prefix widths of the draft's places. Numbers and no type of their own: `vectors` reads and writes with each width from 1 to 8.
     pub const PREFIX6: u32 = 6;
 
     pub const PREFIX7: u32 = 7;
@@ -74,82 +49,78 @@ impl WireInt {
     }
 
     // The integer at the place `at` whose prefix is the low `width` bits of the byte there.
-    pub fn read(s: &[u8], at: usize, width: u32) -> IntRead
+    pub fn read(s: &[u8], at: usize, width: u32) -> Read<WireInt>
         requires { (1 ≤ width) × (width ≤ 8) }
         ensures { result ≡ read_int width s.now at }
     {
         if s.len() <= at {
-            return IntRead::Refused(TRUNCATED);
+            return Err(Refusal::Truncated);
         }
         let full = power(width);
         let first = wide(s[at]) % full;
         let next = at + 1;
         if first < full - 1 {
-            return IntRead::Value(Self::new(first), next);
+            return Ok((Self::new(first), next));
         }
         Self::read_groups(s, next, first)
     }
 
     // The same integer, if it takes one byte or two. Most do, so whoever reads many looks for these first.
-    pub fn short(s: &[u8], at: usize, width: u32) -> ShortInt
+    pub fn short(s: &[u8], at: usize, width: u32) -> Option<(WireInt, usize)>
         requires { (1 ≤ width) × (width ≤ 8) }
         ensures { result ≡ short_int_at width s.now at }
     {
         if s.len() <= at {
-            return ShortInt::Other;
+            return None;
         }
         let full = power(width);
         let first = wide(s[at]) % full;
         let next = at + 1;
         if first < full - 1 {
-            return ShortInt::Value(Self::new(first), next);
+            return Some((Self::new(first), next));
         }
         if s.len() <= next {
-            return ShortInt::Other;
+            return None;
         }
         let group = wide(s[next]);
         if Self::GROUP <= group {
-            return ShortInt::Other;
+            return None;
         }
-        ShortInt::Value(Self::new(first + group), next + 1)
+        Some((Self::new(first + group), next + 1))
     }
 
     // An integer at its end, the place `next`: its last group says `group` and weighs `weight`, and the first group weighs 1.
-    fn finish(value: u32, next: usize, group: u32, weight: u32) -> IntRead
+    fn finish(value: u32, next: usize, group: u32, weight: u32) -> Read<WireInt>
         ensures { result ≡ finished group weight value next }
     {
         if Self::LARGEST < value {
-            return IntRead::Refused(TOO_LARGE);
+            return Err(Refusal::TooLarge);
         }
         if group == 0 && 1 < weight {
-            return IntRead::Refused(PADDED);
+            return Err(Refusal::Padded);
         }
-        IntRead::Value(Self::new(value), next)
+        Ok((Self::new(value), next))
     }
 
     // The groups from the place `at` on, above the prefix's value.
-    fn read_groups(s: &[u8], at: usize, first: u32) -> IntRead
-        requires { first ≤ 255 }
+    fn read_groups(s: &[u8], at: usize, first: u32) -> Read<WireInt>
+        requires { (first ≤ 255) × (at ≤ length s.now) }
         ensures { result ≡ groups 4 s.now at first 1 }
     {
-        let mut next = at;
         let mut value = first;
         let mut weight: u32 = 1;
-        let mut left: u32 = Self::GROUPS;
-        while 0 < left {
+        for next in at..at + Self::GROUPS as usize {
             if s.len() <= next {
-                return IntRead::Refused(TRUNCATED);
+                return Err(Refusal::Truncated);
             }
             let b = wide(s[next]);
             value += b % Self::GROUP * weight;
-            next += 1;
             if b < Self::GROUP {
-                return Self::finish(value, next, b, weight);
+                return Self::finish(value, next + 1, b, weight);
             }
             weight *= Self::GROUP;
-            left -= 1;
         }
-        IntRead::Refused(TOO_LARGE)
+        Err(Refusal::TooLarge)
     }
 
     // Writes the number at the place `at`, in the fewest bytes, below the bits `top` of its first byte.
@@ -178,6 +149,7 @@ impl WireInt {
         ensures value { result ≡ at + length (group_wire 3 rest) }
         ensures out_after { out.new ≡ overlay out.old at (group_wire 3 rest) }
     {
+        // No step is counted, so `for` has none to take: what is left says when it ends.
         let mut left = rest;
         let mut next = at;
         while Self::GROUP <= left {

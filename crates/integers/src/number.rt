@@ -1,4 +1,6 @@
 // A stream number and a table index are different things, and neither can stand for the other. Each is made by its constructor, which asks for its range.
+// No ghost field has the range (tried): definitions make a stream or an index of any number (`read_delta`, `turn_of`, `read_name`), as the wire can say it, and would
+// have to prove the range there. So functions that rest on it ask for it.
 ghost use Rattle.std.specs.Prelude.{◌≡◌, ◌<◌, ◌≤◌};
 ghost use Rattle.integers.specs.Integer.{largest, last_stream};
 

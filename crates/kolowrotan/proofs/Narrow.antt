@@ -9,13 +9,11 @@ use mathlib.Core.List.{List, []}
 use lib.ListN.{length}
 use lib.Dec.{leb, ltb}
 use Rattle.memory.specs.Choice.{need}
-use Rattle.integers.specs.Answers.{Answer}
+use Rattle.integers.specs.Answers.{Answer, on_read, Read, number_of}
 use Rattle.integers.specs.Integer.{largest}
 use Rattle.fields.specs.Form.{list_form}
 use Rattle.instructions.specs.Instruction.{Instruction, insert, delete, acknowledge, instruction_wire}
-use Rattle.instructions.specs.Reading.{read_for_decoder, instruction_of, on_instruction}
-use Rattle.instructions.specs.declared.read.InstructionRead.{InstructionRead}
-use Rattle.instructions.specs.declared.read.InstructionRead.TheVariants.{Found, Refused}
+use Rattle.instructions.specs.Reading.{read_for_decoder, instruction_of}
 use Rattle.blocks.specs.Representation.{Representation}
 use Rattle.blocks.specs.Meaning.{BlockMeaning, list, block_meaning}
 use Rattle.blocks.specs.Meaning as meaning
@@ -34,6 +32,9 @@ use Rattle.reply.specs.Reply.{Narrow}
 use Rattle.reply.specs.Result.{Result, refused, stepped}
 use Rattle.decoder.specs.Calls.{start_call, read_call, on_block, block_call, over_call, ended_call, hold_call, collect_call}
 use Rattle.decoder.proofs.Holding.{lowest-low}
+use Rattle.std.specs.Prelude.{Ok, Err}
+use Rattle.instructions.specs.declared.read.InstructionPlace.{InstructionPlace}
+use Rattle.integers.specs.declared.answer.Refusal.{Refusal}
 
 -- a reply is as narrow as the answer that it is
 pub narrow : {a b : Answer} → a ≡ b → Narrow b → Narrow a
@@ -111,10 +112,10 @@ pub read-call : (m s : List ℕ) → Narrow (read_call m s).answer
 unfolding read_call stepped
 read-call m s = call (forms_decoder m) _ _ _ _ (go (read_for_decoder s))
   where
-    go : (r : InstructionRead) → Narrow (on_instruction (refused m []) r
+    go : (r : Read InstructionPlace) → Narrow (on_read (λ (why : Refusal). refused m [] (number_of why)) r
         (λ p taken. stepped overlay_decoder m [] (read_instruction (decoder_of m) (instruction_of s p) taken))).answer
-    go (Found p taken) = read-narrow (decoder_of m) (instruction_of s p) taken
-    go (Refused number) = omega arith
+    go (Ok (p, taken)) = read-narrow (decoder_of m) (instruction_of s p) taken
+    go (Err why) = omega arith
 
 pub block-call : (m : List ℕ) (stream part : ℕ) (s out : List ℕ) → Narrow (block_call m stream part s out).answer
 unfolding block_call stepped
@@ -125,7 +126,7 @@ block-call m stream part s out =
     go : (r : BlockRead) → Narrow (on_block (refused m out) r
         (λ rs. stepped overlay_decoder m out (decode_block (decoder_of m) stream part rs (length out)))).answer
     go (block rs) = block-narrow (decoder_of m) stream part rs (length out)
-    go (reading.BlockRead.refused number) = omega arith
+    go (reading.BlockRead.refused why) = omega arith
 
 pub over-call : (m : List ℕ) (stream : ℕ) → Narrow (over_call m stream).answer
 unfolding over_call stepped

@@ -8,17 +8,15 @@ use lib.ListN.{length}
 use lib.Dec.{leb, ltb}
 use borrow.Author.Tests.{leb-true}
 use Rattle.memory.proofs.Order.{need-both}
-use Rattle.integers.specs.Answers.{over_limit}
+use Rattle.integers.specs.Answers.{over_limit, on_read, Read, number_of}
 use Rattle.integers.specs.Integer.{largest}
 use Rattle.fields.specs.Form.{Field}
 use Rattle.fields.specs.Reading.{FieldListRead, list, read_field_list}
 use Rattle.fields.specs.Reading as reading
 use Rattle.instructions.specs.Instruction.{insert, instruction_wire}
-use Rattle.instructions.specs.Reading.{read_for_encoder, on_instruction}
+use Rattle.instructions.specs.Reading.{read_for_encoder}
 use Rattle.instructions.specs.declared.read.InstructionPlace.{InstructionPlace}
 use Rattle.instructions.specs.declared.read.InstructionPlace.TheVariants.{Insert, Delete, Acknowledge}
-use Rattle.instructions.specs.declared.read.InstructionRead.{InstructionRead}
-use Rattle.instructions.specs.declared.read.InstructionRead.TheVariants.{Found, Refused}
 use Rattle.blocks.specs.Representation.{block_wire}
 use Rattle.model.specs.Table.{size, look, vacant_from}
 use Rattle.model.specs.Parts.{Part, part_of, in_turn, streams}
@@ -35,6 +33,8 @@ use Rattle.reply.specs.Result.{Result, refused, stepped}
 use Rattle.encoder.specs.Calls.{start_call, insert_call, delete_call, on_list, block_call, acknowledged, acknowledge_call}
 use Rattle.places.proofs.PlacesClaim.{sent-places, sent-limit}
 use Rattle.kolowrotan.proofs.Narrow.{step, call}
+use Rattle.std.specs.Prelude.{Ok, Err}
+use Rattle.integers.specs.declared.answer.Refusal.{Refusal}
 
 -- ---- the encoder's steps
 
@@ -103,7 +103,7 @@ encoder-block m stream part s out =
     go : (r : FieldListRead) → Narrow (on_list (refused m out) r
         (λ fs. stepped overlay_encoder m out (encode_block (encoder_of m) stream part fs (length out)))).answer
     go (list fs) = block-narrow (encoder_of m) stream part fs (length out)
-    go (reading.FieldListRead.refused number) = omega arith
+    go (reading.FieldListRead.refused why) = omega arith
 
 pub encoder-acknowledge : (m s : List ℕ) → Narrow (acknowledge_call m s).answer
 unfolding acknowledge_call stepped
@@ -114,6 +114,6 @@ encoder-acknowledge m s = call (forms_encoder m) _ _ _ _ (go (read_for_encoder s
     free (Delete i first last) taken = omega arith
     free (Acknowledge i) taken = free-narrow (encoder_of m) i.value taken
 
-    go : (r : InstructionRead) → Narrow (on_instruction (refused m []) r (acknowledged m)).answer
-    go (Found p taken) = free p taken
-    go (Refused number) = omega arith
+    go : (r : Read InstructionPlace) → Narrow (on_read (λ (why : Refusal). refused m [] (number_of why)) r (acknowledged m)).answer
+    go (Ok (p, taken)) = free p taken
+    go (Err why) = omega arith

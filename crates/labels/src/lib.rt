@@ -3,21 +3,13 @@
 
 use recording::{Fault, Kind};
 use text_io::print::{Text, number, words};
-use tokens::hex::line_end;
 
 // Line `k` of a table.
 pub fn entry(out: &mut [u8], t: Text, table: &[u8], k: usize) -> Text {
-    let mut left = k;
-    let mut at: usize = 0;
-    while at < table.len() {
-        let end = line_end(table, at);
-        if left == 0 {
-            return words(out, t, &table[at..end]);
-        }
-        left -= 1;
-        at = end + 1;
+    match table.split(|c| *c == b'\n').nth(k) {
+        Some(line) => words(out, t, line),
+        None => t,
     }
-    t
 }
 
 // Document 01's numbered table, shortened.
@@ -47,45 +39,36 @@ pub fn answer_name(out: &mut [u8], t: Text, answer: u8) -> Text {
 
 // What a call of each kind is about.
 pub fn kind_name(out: &mut [u8], t: Text, kind: Kind) -> Text {
-    let table = b"decoder start\n\
-        management\n\
-        block\n\
-        end of message\n\
-        end of stream\n\
-        collect\n\
-        hold enquiry\n\
-        encoder start\n\
-        encoder insert\n\
-        encoder delete\n\
-        encoder block\n\
-        acknowledgement\n";
-    entry(out, t, table, kind_number(kind))
+    words(out, t, kind_words(kind))
 }
 
-fn kind_number(kind: Kind) -> usize {
+fn kind_words(kind: Kind) -> &'static [u8] {
     match kind {
-        Kind::DecoderStart => 0,
-        Kind::DecoderRead => 1,
-        Kind::DecoderBlock => 2,
-        Kind::DecoderOver => 3,
-        Kind::DecoderEnded => 4,
-        Kind::DecoderCollect => 5,
-        Kind::DecoderHold => 6,
-        Kind::EncoderStart => 7,
-        Kind::EncoderInsert => 8,
-        Kind::EncoderDelete => 9,
-        Kind::EncoderBlock => 10,
-        Kind::EncoderAcknowledge => 11,
+        Kind::DecoderStart => b"decoder start",
+        Kind::DecoderRead => b"management",
+        Kind::DecoderBlock => b"block",
+        Kind::DecoderOver => b"end of message",
+        Kind::DecoderEnded => b"end of stream",
+        Kind::DecoderCollect => b"collect",
+        Kind::DecoderHold => b"hold enquiry",
+        Kind::EncoderStart => b"encoder start",
+        Kind::EncoderInsert => b"encoder insert",
+        Kind::EncoderDelete => b"encoder delete",
+        Kind::EncoderBlock => b"encoder block",
+        Kind::EncoderAcknowledge => b"acknowledgement",
     }
 }
 
 // A part of a stream by its number.
 pub fn part_name(out: &mut [u8], t: Text, part: u64) -> Text {
-    if part < 2 {
-        return entry(out, t, b"message\ntrailer\n", part as usize);
+    match part {
+        0 => words(out, t, b"message"),
+        1 => words(out, t, b"trailer"),
+        _ => {
+            let a = words(out, t, b"part ");
+            number(out, a, part)
+        }
     }
-    let a = words(out, t, b"part ");
-    number(out, a, part)
 }
 
 // That the line of this number is no call.
@@ -97,22 +80,18 @@ pub fn not_a_call(out: &mut [u8], t: Text, line: u64) -> Text {
 
 // Why a line is no call.
 pub fn fault_name(out: &mut [u8], t: Text, fault: Fault) -> Text {
-    let table = b"no such call\n\
-        a number is missing, or is none of 0 to 2^64 - 1\n\
-        bytes are missing, are no pairs of hexadecimal digits, or are more than 20,000\n\
-        the room is no number of 0 to 65,536\n\
-        more words than the call has\n\
-        longer than 65,535 characters\n";
-    entry(out, t, table, fault_number(fault))
+    words(out, t, fault_words(fault))
 }
 
-fn fault_number(fault: Fault) -> usize {
+fn fault_words(fault: Fault) -> &'static [u8] {
     match fault {
-        Fault::NoSuchCall => 0,
-        Fault::NoNumber => 1,
-        Fault::NoBytes => 2,
-        Fault::BadRoom => 3,
-        Fault::MoreWords => 4,
-        Fault::TooLong => 5,
+        Fault::NoSuchCall => b"no such call",
+        Fault::NoNumber => b"a number is missing, or is none of 0 to 2^64 - 1",
+        Fault::NoBytes => {
+            b"bytes are missing, are no pairs of hexadecimal digits, or are more than 20,000"
+        }
+        Fault::BadRoom => b"the room is no number of 0 to 65,536",
+        Fault::MoreWords => b"more words than the call has",
+        Fault::TooLong => b"longer than 65,535 characters",
     }
 }

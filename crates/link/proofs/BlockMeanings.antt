@@ -11,13 +11,13 @@ use lib.Dec.{ltb, leb, T}
 use Rattle.memory.specs.Choice.{pick}
 use Rattle.memory.specs.Bytes.{Small, overlay}
 use Rattle.memory.proofs.Order.{need-both}
-use Rattle.integers.specs.Answers.{Answer, among, out_of_turn}
+use Rattle.integers.specs.Answers.{Answer, among, out_of_turn, number_of}
 use Rattle.integers.proofs.Told.{One}
 use Rattle.fields.specs.Form.{Field, list_form}
 use Rattle.blocks.specs.Representation.{Representation}
 use Rattle.blocks.specs.Reading.{BlockRead, block, read_block}
 use Rattle.blocks.specs.Reading as blocks
-use Rattle.blocks.specs.Meaning.{BlockMeaning, with_statics, list, block_meaning}
+use Rattle.blocks.specs.Meaning.{BlockMeaning, list, block_meaning}
 use Rattle.blocks.specs.Meaning as meaning
 use Rattle.blocks.proofs.Told.{block_refusals, BlockTold, block-told}
 use Rattle.model.specs.Parts.{Part, part_of, in_turn, streams}
@@ -32,7 +32,7 @@ use Rattle.reply.specs.Result.{Result}
 use Rattle.link.specs.Calls.{decoder_result, done_bytes}
 use Rattle.link.specs.Calls as calls
 use Rattle.link.specs.Histories.{BlockMeans}
-use Rattle.link.proofs.Lifted.{StandsDecoder, read_block_call, decoder_call_of}
+use Rattle.link.proofs.Lifted.{StandsDecoder, read_block_call, decoder_call_of, decoder_unread}
 use Rattle.link.proofs.DecoderLifting.{lift-decoder}
 use Rattle.link.proofs.DoneBytes.{done-bytes}
 
@@ -85,11 +85,11 @@ module _ (D : Decoder) (stream part : ℕ) (b out : List ℕ) (r : Result) where
         given = λ z. let g = M.given (sym n ∙ z) in (rs, g.0, e, g.1, w ∙ g.2);
         waits = λ z. (rs, e, M.waits (sym n ∙ z) ∙ ap (λ (a : Answer). meaning.BlockMeaning.waits a.first) (sym l.0));
       }
-  means-call true (blocks.BlockRead.refused k) e t l =
-      let n = number (at-decoder.unread k) l in
+  means-call true (blocks.BlockRead.refused why) e t l =
+      let n = number (decoder_unread why) l in
       record {
-        given = λ z. absurd (among-not block_refusals 0 k refl t (sym n ∙ z));
-        waits = λ z. absurd (among-not block_refusals 1 k refl t (sym n ∙ z));
+        given = λ z. absurd (among-not block_refusals 0 (number_of why) refl t (sym n ∙ z));
+        waits = λ z. absurd (among-not block_refusals 1 (number_of why) refl t (sym n ∙ z));
       }
   means-call false q e t l =
       let n = number (at-decoder.unread out_of_turn) l in

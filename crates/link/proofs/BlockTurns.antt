@@ -54,7 +54,7 @@ call-turn : (D : Decoder) (s part room : ℕ) (turn : Bool) → part_turn D.fini
 unfolding decoder_call decode_block
 call-turn D s part room true e (blocks.BlockRead.block rs) t =
     (λ z. absurd (turned-other D s room rs (part_of part) e z), λ z. absurd (not-both true refl z))
-call-turn D s part room true e (blocks.BlockRead.refused k) t =
+call-turn D s part room true e (blocks.BlockRead.refused why) t =
     (λ z. absurd (subst T (ap (among block_refusals) z) t), λ z. absurd (not-both true refl z))
 call-turn D s part room false e q t = (λ z. refl, λ z. refl)
 

@@ -13,15 +13,13 @@ use borrow.Author.Tests.{ne_eqb}
 use Rattle.memory.specs.Choice.{pick}
 use Rattle.memory.specs.Bytes.{Small}
 use Rattle.memory.proofs.Order.{pick-false, not-both, need-both, need-true}
-use Rattle.integers.specs.Answers.{Answer, out_of_turn}
+use Rattle.integers.specs.Answers.{Answer, out_of_turn, on_read, Read, number_of}
 use Rattle.fields.specs.Form.{Field}
 use Rattle.fields.specs.Reading.{FieldListRead, read_field_list}
 use Rattle.fields.specs.Reading as lists
 use Rattle.fields.proofs.Walk.{list-number}
-use Rattle.instructions.specs.Reading.{read_for_encoder, on_instruction}
+use Rattle.instructions.specs.Reading.{read_for_encoder}
 use Rattle.instructions.specs.declared.read.InstructionPlace.TheVariants.{Insert, Delete, Acknowledge}
-use Rattle.instructions.specs.declared.read.InstructionRead.{InstructionRead}
-use Rattle.instructions.specs.declared.read.InstructionRead.TheVariants.{Found, Refused}
 use Rattle.blocks.specs.Representation.{Representation, block_wire}
 use Rattle.model.specs.Parts.{Part, part_of, Marks, in_turn, streams}
 use Rattle.model.specs.Outcome.{Outcome, refuse}
@@ -35,13 +33,16 @@ use Rattle.reply.specs.Result.{Result}
 use Rattle.link.specs.Calls.{EncoderCall, encoder_result, AllEncoderBytes, encoder_after}
 use Rattle.link.specs.Calls as calls
 use Rattle.link.specs.Histories.{finishes, closed_by, closed_after, TurnBy}
-use Rattle.link.proofs.Lifted.{StandsEncoder, read_list_call, acknowledged_call, encoder_call_of}
+use Rattle.link.proofs.Lifted.{StandsEncoder, read_list_call, acknowledged_call, encoder_call_of, encoder_unread}
 use Rattle.link.proofs.EncoderLifting.{lift-encoder}
 use Rattle.link.proofs.Runs.{encoder_calls_of, after-encoder}
+use Rattle.std.specs.Prelude.{Ok, Err}
+use Rattle.instructions.specs.declared.read.InstructionPlace.{InstructionPlace}
+use Rattle.integers.specs.declared.answer.Refusal.{Refusal}
 
 -- a list is refused with 13 or 16, neither with 0 nor with 11
-refused-high : (s : List ℕ) (number : ℕ) → read_field_list s ≡ lists.FieldListRead.refused number → 13 ≤ number
-refused-high s number e = ⊎_elim (λ d. omega (arith, d)) (λ d. omega (arith, d)) (list-number s (length s) 0 [] number e)
+refused-high : (s : List ℕ) (why : Refusal) → read_field_list s ≡ lists.FieldListRead.refused why → 13 ≤ number_of why
+refused-high s why e = ⊎_elim (λ d. omega (arith, d)) (λ d. omega (arith, d)) (list-number s (length s) 0 [] why e)
 
 -- ---- what one call closes
 module _ (E : Encoder) where
@@ -56,12 +57,12 @@ module _ (E : Encoder) where
   unfolding encoder_call
   delete-keeps i room = ways.delete-ways Kept E (λ a z. refl) i room (λ e there still fits. refl)
 
-  acknowledge-keeps : (q : InstructionRead) → Kept (encoder_call E (on_instruction at-encoder.unread q acknowledged_call))
+  acknowledge-keeps : (q : Read InstructionPlace) → Kept (encoder_call E (on_read encoder_unread q acknowledged_call))
   unfolding encoder_call
-  acknowledge-keeps (Found (Insert i name value) taken) = refl
-  acknowledge-keeps (Found (Delete i first last) taken) = refl
-  acknowledge-keeps (Found (Acknowledge i) taken) = ways.acknowledged-ways Kept E (λ a z. refl) i.value taken (λ e there gone. refl)
-  acknowledge-keeps (Refused number) = refl
+  acknowledge-keeps (Ok (Insert i name value, taken)) = refl
+  acknowledge-keeps (Ok (Delete i first last, taken)) = refl
+  acknowledge-keeps (Ok (Acknowledge i, taken)) = ways.acknowledged-ways Kept E (λ a z. refl) i.value taken (λ e there gone. refl)
+  acknowledge-keeps (Err why) = refl
 
   -- an answer that closes where it is 0
   abbrev Closes : Marks → Outcome Encoder → Type 0
@@ -73,8 +74,8 @@ module _ (E : Encoder) where
   block-closes stream part room s true (lists.FieldListRead.list fs) e =
       ways.block-ways (Closes (finishes (part_of part) stream E.written)) E (λ a z. pick-false (eqb a.number 0) _ _ z) stream part fs room
       (λ p rs chosen known low turn short fits. ap (λ (o : Option Part). finishes o stream E.written) known)
-  block-closes stream part room s true (lists.FieldListRead.refused number) e =
-      pick-false (eqb number 0) _ _ (ne_eqb number 0 (λ z. omega (arith, z, refused-high s number e)))
+  block-closes stream part room s true (lists.FieldListRead.refused why) e =
+      pick-false (eqb (number_of why) 0) _ _ (ne_eqb (number_of why) 0 (λ z. omega (arith, z, refused-high s why e)))
   block-closes stream part room s false q e = refl
 
 closed-call : (E : Encoder) (c : EncoderCall) (r : Result) → r.answer ≡ (encoder_call E (encoder_call_of E c)).answer
@@ -122,7 +123,7 @@ module _ (E : Encoder) (stream room : ℕ) where
   unfolding encoder_call encode_block
   call-turn part s true e (lists.FieldListRead.list fs) d =
       (λ z. absurd (turned-other (part_of part) fs e z), λ z. absurd (not-both true refl z))
-  call-turn part s true e (lists.FieldListRead.refused number) d = (λ z. absurd (omega (arith, z, refused-high s number d)), λ z. absurd (not-both true refl z))
+  call-turn part s true e (lists.FieldListRead.refused why) d = (λ z. absurd (omega (arith, z, refused-high s why d)), λ z. absurd (not-both true refl z))
   call-turn part s false e q d = (λ z. refl, λ z. refl)
 
 block-turn : (m : List ℕ) (E : Encoder) → StandsEncoder m E → (stream part : ℕ) (s out : List ℕ) → Small s → Small out

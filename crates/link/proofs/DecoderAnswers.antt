@@ -10,19 +10,17 @@ use lib.ListN.{length}
 use lib.Dec.{ltb, leb}
 use borrow.Author.Tests.{leb-true}
 use Rattle.memory.proofs.Order.{pick-both}
-use Rattle.integers.specs.Answers.{not_allowed, held, over_limit, vacant, under_deletion, not_under_deletion, out_of_turn, no_room}
+use Rattle.integers.specs.Answers.{not_allowed, held, over_limit, vacant, under_deletion, not_under_deletion, out_of_turn, no_room, on_read, Read, number_of}
 use Rattle.integers.specs.Integer.{largest}
 use Rattle.statics.specs.Table.{Entry, entry_at}
 use Rattle.statics.proofs.Places.{name-most, value-most}
 use Rattle.fields.specs.Form.{list_form}
 use Rattle.fields.proofs.Sizes.{list_form-most}
 use Rattle.instructions.specs.Instruction.{Instruction, insert, delete, acknowledge, instruction_wire}
-use Rattle.instructions.specs.Reading.{read_for_decoder, on_instruction, instruction_of}
-use Rattle.instructions.specs.declared.read.InstructionRead.{InstructionRead}
-use Rattle.instructions.specs.declared.read.InstructionRead.TheVariants.{Found, Refused}
+use Rattle.instructions.specs.Reading.{read_for_decoder, instruction_of}
 use Rattle.instructions.proofs.Bounds.{decoder-good}
 use Rattle.instructions.proofs.Lengths.{acknowledge-length}
-use Rattle.instructions.proofs.Told.{decoder_refusals, InstructionTold, decoder-told}
+use Rattle.instructions.proofs.Told.{decoder_refusals, decoder-told}
 use Rattle.blocks.specs.Representation.{Representation}
 use Rattle.blocks.specs.Meaning.{is_static, Slot, holds, with_statics, BlockMeaning, block_meaning}
 use Rattle.blocks.specs.Meaning as meaning
@@ -44,8 +42,11 @@ use Rattle.parts.specs.Turn.{part_turn}
 use Rattle.decoder.proofs.Holding.{count-few, lowest-low}
 use Rattle.link.specs.Calls.{DecoderCall, Call, at_decoder}
 use Rattle.link.specs.Calls as calls
-use Rattle.link.proofs.Lifted.{read_block_call, decoder_call_of}
+use Rattle.link.proofs.Lifted.{read_block_call, decoder_call_of, decoder_unread}
 use Rattle.link.proofs.Says.{Says, refusal-says, refusing, unread-says, both_say, first_says}
+use Rattle.std.specs.Prelude.{Ok, Err}
+use Rattle.instructions.specs.declared.read.InstructionPlace.{InstructionPlace}
+use Rattle.integers.proofs.Told.{RefusedBy}
 
 abbrev reading : List ℕ → Call
 reading s = at_decoder (calls.DecoderCall.read s)
@@ -164,17 +165,17 @@ pub decoder-says : (D : Decoder) → FormsDecoder D → (c : DecoderCall) → Sa
 unfolding decoder_call_of decoder_call decode_block close_parts collect_entry enquire_hold
 decoder-says D F (calls.DecoderCall.read s) = go (read_for_decoder s) refl (decoder-told s).told
   where
-    go : (r : InstructionRead) → read_for_decoder s ≡ r → InstructionTold decoder_refusals r
-        → Says (reading s) (decoder_call D (on_instruction at-decoder.unread r (λ p taken. at-decoder.read (instruction_of s p) taken)))
-    go (Found p taken) e t = let g = decoder-good s p taken e in read-says D s taken g.inside g.short (instruction_of s p)
-    go (Refused number) e t = unread-says (reading s) D decoder_refusals tt number t
+    go : (r : Read InstructionPlace) → read_for_decoder s ≡ r → RefusedBy decoder_refusals r
+        → Says (reading s) (decoder_call D (on_read decoder_unread r (λ p taken. at-decoder.read (instruction_of s p) taken)))
+    go (Ok (p, taken)) e t = let g = decoder-good s p taken e in read-says D s taken g.inside g.short (instruction_of s p)
+    go (Err why) e t = unread-says (reading s) D decoder_refusals tt (number_of why) t
 decoder-says D F (calls.DecoderCall.block stream part s out) =
     pick-both (λ (x : at-decoder.DecoderCall). Says (decoding stream part s out) (decoder_call D x)) (part_turn D.finished stream (part_of part)) _
     (at-decoder.unread out_of_turn) (λ e. go (read_block s) refl (block-told s)) (λ e. refusal-says (decoding stream part s out) D out_of_turn tt)
   where
     go : (r : BlockRead) → read_block s ≡ r → BlockTold r → Says (decoding stream part s out) (decoder_call D (read_block_call stream part (length out) r))
     go (blocks.BlockRead.block rs) e t = part_says D F stream part s out rs e (part_of part)
-    go (blocks.BlockRead.refused number) e t = unread-says (decoding stream part s out) D block_refusals tt number t
+    go (blocks.BlockRead.refused why) e t = unread-says (decoding stream part s out) D block_refusals tt (number_of why) t
 decoder-says D F (calls.DecoderCall.close k stream) =
     refusing (at_decoder (calls.DecoderCall.close k stream)) D (ltb stream streams) out_of_turn tt
     (λ e. both_say (at_decoder (calls.DecoderCall.close k stream)) _ 0 0 nothing refl (λ z. refl) (λ z. refl) tt (omega arith) (omega arith))

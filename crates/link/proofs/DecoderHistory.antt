@@ -14,11 +14,9 @@ use Rattle.memory.specs.Choice.{pick}
 use Rattle.memory.specs.Bytes.{Small}
 use Rattle.memory.proofs.Order.{pick-both}
 use Rattle.memory.proofs.Places.{has_all}
-use Rattle.integers.specs.Answers.{Answer, out_of_turn}
+use Rattle.integers.specs.Answers.{Answer, out_of_turn, on_read, Read}
 use Rattle.instructions.specs.Instruction.{acknowledge, FineIndex, instruction_wire}
-use Rattle.instructions.specs.Reading.{read_for_decoder, read_for_encoder, on_instruction, instruction_of}
-use Rattle.instructions.specs.declared.read.InstructionRead.{InstructionRead}
-use Rattle.instructions.specs.declared.read.InstructionRead.TheVariants.{Found, Refused}
+use Rattle.instructions.specs.Reading.{read_for_decoder, read_for_encoder, instruction_of}
 use Rattle.instructions.proofs.Back.{encoder-back}
 use Rattle.blocks.specs.Reading.{BlockRead, read_block}
 use Rattle.blocks.specs.Reading as blocks
@@ -41,11 +39,11 @@ use Rattle.state.specs.Forms.{forms_decoder}
 use Rattle.state_laws.proofs.DecoderLaws.{decoder-laws}
 use Rattle.parts.specs.Turn.{part_turn}
 use Rattle.decoder.specs.Calls.{start_call}
-use Rattle.link.specs.Calls.{DecoderCall, decoder_result, AllDecoderBytes, decoder_after, done_bytes}
+use Rattle.link.specs.Calls.{DecoderCall, decoder_result, AllDecoderBytes, decoder_after}
 use Rattle.link.specs.Calls as calls
 use Rattle.link.specs.Happened.{managed, acknowledged, happened, history, Ready}
 use Rattle.link.specs.Histories.{contents_in, Lawful, BlockMeans, finished_after, hold_answer, Agrees}
-use Rattle.link.proofs.Lifted.{StandsDecoder, LiftedDecoder, read_block_call, decoder_call_of}
+use Rattle.link.proofs.Lifted.{StandsDecoder, LiftedDecoder, read_block_call, decoder_call_of, decoder_unread}
 use Rattle.link.proofs.DecoderLifting.{lift-decoder, start-decoder, stands-self-decoder}
 use Rattle.link.proofs.Runs.{decoder_calls_of, fine-decoders, after-decoder}
 use Rattle.link.proofs.DoneBytes.{done-bytes}
@@ -54,19 +52,21 @@ use Rattle.link.proofs.BlockMeanings.{block-means}
 use Rattle.link.proofs.LawfulReads.{lawful-read}
 use Rattle.link.proofs.BlockTurns.{block-turn}
 use Rattle.link.proofs.FinishedParts.{finished-after, hold-answer}
+use Rattle.std.specs.Prelude.{Ok, Err}
+use Rattle.instructions.specs.declared.read.InstructionPlace.{InstructionPlace}
 
 pub forms-decoder : (m : List ℕ) (D : Decoder) → StandsDecoder m D → FormsDecoder D
 forms-decoder m D h = subst FormsDecoder h.state (decoder-laws.fits m h.small h.forms).forms
 
 -- ---- an instruction that was read
-abbrev read_call_of : List ℕ → InstructionRead → at-decoder.DecoderCall
-read_call_of s q = on_instruction at-decoder.unread q (λ p taken. at-decoder.read (instruction_of s p) taken)
+abbrev read_call_of : List ℕ → Read InstructionPlace → at-decoder.DecoderCall
+read_call_of s q = on_read decoder_unread q (λ p taken. at-decoder.read (instruction_of s p) taken)
 
-read-did : (D : Decoder) (s : List ℕ) (a : Answer) (q : InstructionRead) → a ≡ (decoder_call D (read_call_of s q)).answer
-    → pick (eqb a.number 0) (on_instruction (λ n. []) q (λ p taken. done_by (instruction_of s p))) [] ≡ did_by (read_call_of s q) (decoder_call D (read_call_of s q))
+read-did : (D : Decoder) (s : List ℕ) (a : Answer) (q : Read InstructionPlace) → a ≡ (decoder_call D (read_call_of s q)).answer
+    → pick (eqb a.number 0) (on_read (λ why. []) q (λ p taken. done_by (instruction_of s p))) [] ≡ did_by (read_call_of s q) (decoder_call D (read_call_of s q))
 unfolding did_by
-read-did D s a (Found p taken) e = ap (λ (b : Answer). pick (eqb b.number 0) (done_by (instruction_of s p)) []) e
-read-did D s a (Refused number) e = pick-both (λ (l : List Happened). l ≡ []) (eqb a.number 0) [] [] (λ t. refl) (λ t. refl)
+read-did D s a (Ok (p, taken)) e = ap (λ (b : Answer). pick (eqb b.number 0) (done_by (instruction_of s p)) []) e
+read-did D s a (Err why) e = pick-both (λ (l : List Happened). l ≡ []) (eqb a.number 0) [] [] (λ t. refl) (λ t. refl)
 
 -- ---- a block did nothing
 block-did : (D : Decoder) (turn : Bool) (stream part room : ℕ) (q : BlockRead)
@@ -74,7 +74,7 @@ block-did : (D : Decoder) (turn : Bool) (stream part room : ℕ) (q : BlockRead)
     (decoder_call D (pick turn (read_block_call stream part room q) (at-decoder.unread out_of_turn)))
 unfolding did_by
 block-did D true stream part room (blocks.BlockRead.block rs) = refl
-block-did D true stream part room (blocks.BlockRead.refused number) = refl
+block-did D true stream part room (blocks.BlockRead.refused why) = refl
 block-did D false stream part room q = refl
 
 -- ---- a collect
@@ -86,7 +86,7 @@ one-acknowledged : (i : ℕ) → FineIndex i → acknowledged (instruction_wire 
 one-acknowledged i fine =
     let w = instruction_wire (acknowledge i) in
     let back = encoder-back w i fine (has_all w) in
-    ap (λ (r : InstructionRead). on_instruction (λ n. []) r (λ p taken. done_by (instruction_of w p))) back.1 ∙ ap done_by back.2
+    ap (λ (r : Read InstructionPlace). on_read (λ why. []) r (λ p taken. done_by (instruction_of w p))) back.1 ∙ ap done_by back.2
 
 collect-did : (D : Decoder) → FormsDecoder D → (room : ℕ)
     → acknowledged (output_bytes (decoder_call D (at-decoder.collect room)).output) ≡ wrote_that (decoder_call D (at-decoder.collect room)).output

@@ -11,16 +11,14 @@ use borrow.Author.Tests.{leb-true}
 use Rattle.memory.specs.Choice.{pick, need}
 use Rattle.memory.specs.Bytes.{Small}
 use Rattle.memory.proofs.Order.{pick-both, need-both, need-true}
-use Rattle.integers.specs.Answers.{refusal, done, over_limit, no_room, out_of_turn}
+use Rattle.integers.specs.Answers.{refusal, done, over_limit, no_room, out_of_turn, on_read, Read, number_of}
 use Rattle.wire.proofs.TextBounds.{string-bytes-small}
 use Rattle.wire.specs.Name.{name_of}
 use Rattle.wire.specs.declared.name.NamePlace.{NamePlace}
 use Rattle.wire.specs.declared.name.NamePlace.TheVariants.{Index, Text}
-use Rattle.instructions.specs.Reading.{read_for_decoder, on_instruction, instruction_of}
+use Rattle.instructions.specs.Reading.{read_for_decoder, instruction_of}
 use Rattle.instructions.specs.declared.read.InstructionPlace.{InstructionPlace}
 use Rattle.instructions.specs.declared.read.InstructionPlace.TheVariants.{Insert, Delete, Acknowledge}
-use Rattle.instructions.specs.declared.read.InstructionRead.{InstructionRead}
-use Rattle.instructions.specs.declared.read.InstructionRead.TheVariants.{Found, Refused}
 use Rattle.instructions.proofs.Bounds.{decoder-good}
 use Rattle.instructions.proofs.Lengths.{SmallName, SmallText}
 use Rattle.blocks.specs.Reading.{BlockRead, read_block}
@@ -41,9 +39,11 @@ use Rattle.reply.specs.Result.{Result, refused, stepped}
 use Rattle.decoder.specs.Calls.{start_call, read_call, on_block, block_call, over_call, ended_call, hold_call, collect_call}
 use Rattle.link.specs.Calls.{DecoderCall, decoder_result, decoder_lent, DecoderBytes}
 use Rattle.link.specs.Calls as calls
-use Rattle.link.proofs.Lifted.{read_block_call, decoder_call_of, StandsDecoder, LiftedDecoder}
+use Rattle.link.proofs.Lifted.{read_block_call, decoder_call_of, StandsDecoder, LiftedDecoder, decoder_unread}
 use Rattle.link.proofs.SmallStates.{small-decoder, decoder_small}
 use Rattle.link.proofs.StatesKept.{SmallDecoderCall, KeptDecoder, kept-start-decoder, kept-decoder}
+use Rattle.std.specs.Prelude.{Ok, Err}
+use Rattle.integers.specs.declared.answer.Refusal.{Refusal}
 
 -- ---- the model's calls that bytes give: fine instructions, with strings of bytes
 
@@ -61,15 +61,15 @@ pub fine-decoder : (D : Decoder) (c : DecoderCall) → FineCall (decoder_call_of
 unfolding decoder_call_of
 fine-decoder D (calls.DecoderCall.read s) = go (read_for_decoder s) refl
   where
-    go : (r : InstructionRead) → read_for_decoder s ≡ r → FineCall (on_instruction at-decoder.unread r (λ p taken. at-decoder.read (instruction_of s p) taken))
-    go (Found p taken) e = let g = decoder-good s p taken e in (g.kind, g.fine)
-    go (Refused number) e = tt
+    go : (r : Read InstructionPlace) → read_for_decoder s ≡ r → FineCall (on_read decoder_unread r (λ p taken. at-decoder.read (instruction_of s p) taken))
+    go (Ok (p, taken)) e = let g = decoder-good s p taken e in (g.kind, g.fine)
+    go (Err why) e = tt
 fine-decoder D (calls.DecoderCall.block stream part s out) =
     pick-both FineCall (part_turn D.finished stream (part_of part)) _ (at-decoder.unread out_of_turn) (λ e. go (read_block s)) (λ e. tt)
   where
     go : (r : BlockRead) → FineCall (read_block_call stream part (length out) r)
     go (blocks.BlockRead.block rs) = tt
-    go (blocks.BlockRead.refused number) = tt
+    go (blocks.BlockRead.refused why) = tt
 fine-decoder D (calls.DecoderCall.close k stream) = tt
 fine-decoder D (calls.DecoderCall.collect out) = tt
 fine-decoder D (calls.DecoderCall.hold index) = tt
@@ -82,15 +82,15 @@ block-bytes D stream part s out =
   where
     go : (r : BlockRead) → SmallDecoderCall (read_block_call stream part (length out) r)
     go (blocks.BlockRead.block rs) = tt
-    go (blocks.BlockRead.refused number) = tt
+    go (blocks.BlockRead.refused why) = tt
 
 small-decoder-call : (D : Decoder) (c : DecoderCall) → DecoderBytes c → SmallDecoderCall (decoder_call_of D c)
 unfolding decoder_call_of
 small-decoder-call D (calls.DecoderCall.read s) b = go (read_for_decoder s)
   where
-    go : (r : InstructionRead) → SmallDecoderCall (on_instruction at-decoder.unread r (λ p taken. at-decoder.read (instruction_of s p) taken))
-    go (Found p taken) = place-bytes s b p
-    go (Refused number) = tt
+    go : (r : Read InstructionPlace) → SmallDecoderCall (on_read decoder_unread r (λ p taken. at-decoder.read (instruction_of s p) taken))
+    go (Ok (p, taken)) = place-bytes s b p
+    go (Err why) = tt
 small-decoder-call D (calls.DecoderCall.block stream part s out) b = block-bytes D stream part s out
 small-decoder-call D (calls.DecoderCall.close k stream) b = tt
 small-decoder-call D (calls.DecoderCall.collect out) b = tt
@@ -127,12 +127,12 @@ module _ (m : List ℕ) (small : Small m) (forms : forms_decoder m ≡ true) whe
   unfolding decoder_result read_call block_call over_call ended_call hold_call collect_call decoder_call_of decoder_call
   same-decoder (calls.DecoderCall.read s) = need-true (forms_decoder m) _ _ forms ∙ go (read_for_decoder s)
     where
-      go : (r : InstructionRead)
-          → on_instruction (refused m []) r (λ p taken. stepped overlay_decoder m [] (read_instruction (decoder_of m) (instruction_of s p) taken))
+      go : (r : Read InstructionPlace)
+          → on_read (λ (why : Refusal). refused m [] (number_of why)) r (λ p taken. stepped overlay_decoder m [] (read_instruction (decoder_of m) (instruction_of s p) taken))
           ≡ stepped overlay_decoder m [] (decoder_call (decoder_of m)
-          (on_instruction at-decoder.unread r (λ p taken. at-decoder.read (instruction_of s p) taken)))
-      go (Found p taken) = refl
-      go (Refused number) = refused-step [] number
+          (on_read decoder_unread r (λ p taken. at-decoder.read (instruction_of s p) taken)))
+      go (Ok (p, taken)) = refl
+      go (Err why) = refused-step [] (number_of why)
   same-decoder (calls.DecoderCall.block stream part s out) =
       need-true (forms_decoder m) _ _ forms ∙ go (part_turn (decoder_of m).finished stream (part_of part)) (read_block s)
     where
@@ -142,7 +142,7 @@ module _ (m : List ℕ) (small : Small m) (forms : forms_decoder m ≡ true) whe
           ≡ stepped overlay_decoder m out (decoder_call (decoder_of m)
           (pick b (read_block_call stream part (length out) r) (at-decoder.unread out_of_turn)))
       go true (blocks.BlockRead.block rs) = refl
-      go true (blocks.BlockRead.refused number) = refused-step out number
+      go true (blocks.BlockRead.refused why) = refused-step out (number_of why)
       go false r = refused-step out out_of_turn
   same-decoder (calls.DecoderCall.close over stream) = need-true (forms_decoder m) _ _ forms
   same-decoder (calls.DecoderCall.close ended stream) = need-true (forms_decoder m) _ _ forms

@@ -11,21 +11,19 @@ use lib.ListN.{length}
 use lib.Dec.{ltb, leb}
 use borrow.Author.Tests.{leb-true}
 use Rattle.memory.proofs.Order.{pick-both}
-use Rattle.integers.specs.Answers.{not_allowed, over_limit, vacant, under_deletion, not_under_deletion, out_of_turn, no_room, too_long, bad_field_list}
+use Rattle.integers.specs.Answers.{not_allowed, over_limit, vacant, under_deletion, not_under_deletion, out_of_turn, no_room, too_long, bad_field_list, on_read, Read, number_of}
 use Rattle.integers.specs.Integer.{largest}
-use Rattle.integers.proofs.Told.{One}
+use Rattle.integers.proofs.Told.{One, RefusedBy}
 use Rattle.fields.specs.Form.{Field}
 use Rattle.fields.specs.Reading.{FieldListRead, read_field_list}
 use Rattle.fields.specs.Reading as lists
 use Rattle.fields.proofs.Walk.{list-number}
 use Rattle.instructions.specs.Instruction.{insert, FineInstruction, instruction_wire}
-use Rattle.instructions.specs.Reading.{read_for_encoder, on_instruction}
+use Rattle.instructions.specs.Reading.{read_for_encoder}
 use Rattle.instructions.specs.declared.read.InstructionPlace.TheVariants.{Insert, Delete, Acknowledge}
-use Rattle.instructions.specs.declared.read.InstructionRead.{InstructionRead}
-use Rattle.instructions.specs.declared.read.InstructionRead.TheVariants.{Found, Refused}
 use Rattle.instructions.proofs.Bounds.{encoder-good}
 use Rattle.instructions.proofs.Lengths.{insert-size, delete-size}
-use Rattle.instructions.proofs.Told.{encoder_refusals, InstructionTold, encoder-told}
+use Rattle.instructions.proofs.Told.{encoder_refusals, encoder-told}
 use Rattle.blocks.specs.Representation.{Representation, block_wire}
 use Rattle.model.specs.Table.{size, look, vacant_from}
 use Rattle.model.specs.Parts.{Part, part_of, in_turn, streams}
@@ -40,8 +38,11 @@ use Rattle.model_laws.proofs.Saying.{name-fine}
 use Rattle.parts.specs.Turn.{part_turn}
 use Rattle.link.specs.Calls.{EncoderCall, Call, at_encoder}
 use Rattle.link.specs.Calls as calls
-use Rattle.link.proofs.Lifted.{read_list_call, acknowledged_call, encoder_call_of}
+use Rattle.link.proofs.Lifted.{read_list_call, acknowledged_call, encoder_call_of, encoder_unread}
 use Rattle.link.proofs.Says.{Says, refusal-says, refusing, unread-says, both_say, first_says}
+use Rattle.std.specs.Prelude.{Ok, Err}
+use Rattle.instructions.specs.declared.read.InstructionPlace.{InstructionPlace}
+use Rattle.integers.specs.declared.answer.Refusal.{Refusal}
 
 abbrev inserting : List ℕ → List ℕ → List ℕ → Call
 inserting name value out = at_encoder (calls.EncoderCall.insert name value out)
@@ -105,8 +106,8 @@ module _ (E : Encoder) (stream part : ℕ) (s out : List ℕ) where
       (λ e. refusing (encoding stream part s out) E (in_turn E.written stream p) out_of_turn tt
       (λ f. write-says p (map (choose E.entries) fs)))
 
-  list-refused : (number : ℕ) → read_field_list s ≡ lists.FieldListRead.refused number → One (bad_field_list ∷ too_long ∷ []) number
-  list-refused number e = ⊎_elim (λ d. rw d tt) (λ d. rw d tt) (list-number s (length s) 0 [] number e)
+  list-refused : (why : Refusal) → read_field_list s ≡ lists.FieldListRead.refused why → One (bad_field_list ∷ too_long ∷ []) (number_of why)
+  list-refused why e = ⊎_elim (λ d. rw d tt) (λ d. rw d tt) (list-number s (length s) 0 [] why e)
 
 -- ---- an acknowledgement that was read: the bytes taken are told
 
@@ -132,14 +133,14 @@ encoder-says E F (calls.EncoderCall.block stream part s out) =
   where
     go : (r : FieldListRead) → read_field_list s ≡ r → Says (encoding stream part s out) (encoder_call E (read_list_call stream part (length out) r))
     go (lists.FieldListRead.list fs) e = part_says E stream part s out (part_of part) fs
-    go (lists.FieldListRead.refused number) e =
-        unread-says (encoding stream part s out) E (bad_field_list ∷ too_long ∷ []) tt number (list-refused E stream part s out number e)
+    go (lists.FieldListRead.refused why) e =
+        unread-says (encoding stream part s out) E (bad_field_list ∷ too_long ∷ []) tt (number_of why) (list-refused E stream part s out why e)
 encoder-says E F (calls.EncoderCall.acknowledge s) = go (read_for_encoder s) refl (encoder-told s).told
   where
-    go : (r : InstructionRead) → read_for_encoder s ≡ r → InstructionTold encoder_refusals r
-        → Says (acknowledging s) (encoder_call E (on_instruction at-encoder.unread r acknowledged_call))
-    go (Found (Insert i name value) taken) e t = refusal-says (acknowledging s) E not_allowed tt
-    go (Found (Delete i nontrailer trailer) taken) e t = refusal-says (acknowledging s) E not_allowed tt
-    go (Found (Acknowledge i) taken) e t =
+    go : (r : Read InstructionPlace) → read_for_encoder s ≡ r → RefusedBy encoder_refusals r
+        → Says (acknowledging s) (encoder_call E (on_read encoder_unread r acknowledged_call))
+    go (Ok (Insert i name value, taken)) e t = refusal-says (acknowledging s) E not_allowed tt
+    go (Ok (Delete i nontrailer trailer, taken)) e t = refusal-says (acknowledging s) E not_allowed tt
+    go (Ok (Acknowledge i, taken)) e t =
         let g = encoder-good s (Acknowledge i) taken e in freed-says E s taken g.inside g.short (look sent_index i.value E.entries)
-    go (Refused number) e t = unread-says (acknowledging s) E encoder_refusals tt number t
+    go (Err why) e t = unread-says (acknowledging s) E encoder_refusals tt (number_of why) t

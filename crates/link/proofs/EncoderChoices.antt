@@ -15,8 +15,6 @@ use Rattle.memory.proofs.Sameness.{same-eq, eq-same}
 use Rattle.wire.specs.Name.{indexed, literal}
 use Rattle.statics.specs.Table.{Entry}
 use Rattle.static_search.specs.Search.{find_name, find_both}
-use Rattle.static_search.specs.declared.search.StaticFound.{StaticFound}
-use Rattle.static_search.specs.declared.search.StaticFound.TheVariants.{At, Nothing}
 use Rattle.static_search.proofs.Finding.{name-found, name-nothing, both_found, both-nothing}
 use Rattle.static_search.proofs.Finding as finding
 use Rattle.fields.specs.Form.{Field, FineField, AllFine}
@@ -30,6 +28,9 @@ use Rattle.model.specs.Happened.{Happened, after, deletion_by, empty}
 use Rattle.model_laws.proofs.Tables.{nope, first-sound, first-none, first-lowest}
 use Rattle.model_laws.proofs.SentHappened.{held_slot, under_deletion, ToldAfter}
 use Rattle.link.specs.Histories.{Lowest, ByLowest, Static, Serving, Named, Equal, NamedBy, LiteralFor, WrittenFor, AllWrittenFor}
+use Rattle.std.specs.Prelude.{Some, None}
+use Rattle.integers.specs.declared.number.TableIndex.{TableIndex}
+use Rattle.std.specs.Prelude as prelude
 
 -- ---- the static table
 static-lowest : (P : Entry → Type 0) (Q : ℕ → Type 0) → ((k : ℕ) → Static P k → Q k) → (i : ℕ) → finding.Lowest Q 1 62 i → Static P i → Lowest (Static P) i
@@ -119,12 +120,12 @@ module _ (hs : List Happened) (l : List Sent) (order : Ascending sent_index 62 l
     dynamic-named none q = inr (unserved (Named name) (serves name) (serves-back name) (serves-forth name) q, refl)
     dynamic-named (some e) q = inl (e.index, served (Named name) (serves name) (serves-back name) (serves-forth name) e q, refl)
 
-    static-named : (o : StaticFound) → find_name name ≡ o → NamedBy hs name (static_name l name o)
+    static-named : (o : prelude.Option TableIndex) → find_name name ≡ o → NamedBy hs name (static_name l name o)
     unfolding static_name
-    static-named (At j) q =
+    static-named (Some j) q =
         let f = name-found name 61 1 j q in
         inl (j.value, static-lowest (Named name) (finding.HasName name) (λ k s. s.2) j.value f (f.low, omega (arith, f.high), f.holds), refl)
-    static-named Nothing q =
+    static-named None q =
         inr (λ i s. name-nothing name 61 1 q i s.0 (omega (arith, s.1)) s.2, dynamic-named (first (serves name) l) refl)
 
     pub named_by : NamedBy hs name (choose_name l name)
@@ -151,14 +152,14 @@ module _ (hs : List Happened) (l : List Sent) (order : Ascending sent_index 62 l
     dynamic-written z (some e) q =
         inl (e.index, served Same both (equal-back f.name f.value) (equal-forth f.name f.value) e q, refl)
 
-    static-written : f.flag ≡ 0 → (o : StaticFound) → find_both f.name f.value ≡ o
+    static-written : f.flag ≡ 0 → (o : prelude.Option TableIndex) → find_both f.name f.value ≡ o
         → ByLowest (Static Same) representation.indexed (ByLowest (Serving hs Same) representation.indexed (LiteralFor hs f)) (static_field l f o)
     unfolding static_field
-    static-written z (At j) q =
+    static-written z (Some j) q =
         let g = both_found f.name f.value 61 1 j q in
         let there : Static Same j.value = (g.low, omega (arith, g.high), g.holds) in
         inl (j.value, static-lowest Same (finding.HasBoth f.name f.value) (λ k s. s.2) j.value g there, refl)
-    static-written z Nothing q =
+    static-written z None q =
         inr (
           λ i s. both-nothing f.name f.value 61 1 q i s.0 (omega (arith, s.1)) s.2,
           dynamic-written z (first both l) refl,

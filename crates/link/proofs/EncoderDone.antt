@@ -11,7 +11,7 @@ use lib.ListN.{length}
 use borrow.Author.Tests.{eqb-false}
 use Rattle.memory.specs.Choice.{pick}
 use Rattle.memory.specs.Bytes.{Small, overlay}
-use Rattle.integers.specs.Answers.{Answer, out_of_turn}
+use Rattle.integers.specs.Answers.{Answer, out_of_turn, number_of}
 use Rattle.fields.specs.Form.{Field, AllFine}
 use Rattle.fields.specs.Reading.{FieldListRead, read_field_list}
 use Rattle.fields.specs.Reading as lists
@@ -127,7 +127,7 @@ module _ (m : List ℕ) (E : Encoder) (S : StandsEncoder m E) where
         let d = block-done E (stands-forms m E S) stream part fs (length out) fine (ap (λ (x : Answer). x.number) (sym a) ∙ z) in
         let b = done-bytes E (encoder_call E c) out r a o (encoder_refused E c) (encoded-told E stream part fs (length out)) in
         (fs, read, fine, ap read_block b ∙ d.0, b ∙ d.1)
-    block-told true (lists.FieldListRead.refused number) read a o z =
-        let n : number ≡ 0 = unread-number E number (sym (ap (λ (x : Answer). x.number) a) ∙ z) in
-        absurd (⊎_elim (λ d. omega (arith, n)) (λ d. omega (arith, n)) (list-number s (length s) 0 [] number read))
+    block-told true (lists.FieldListRead.refused why) read a o z =
+        let n : number_of why ≡ 0 = unread-number E (number_of why) (sym (ap (λ (x : Answer). x.number) a) ∙ z) in
+        absurd (⊎_elim (λ d. omega (arith, n)) (λ d. omega (arith, n)) (list-number s (length s) 0 [] why read))
     block-told false q read a o z = absurd (omega (arith, unread-number E out_of_turn (sym (ap (λ (x : Answer). x.number) a) ∙ z)))

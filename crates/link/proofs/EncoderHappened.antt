@@ -9,15 +9,13 @@ use lib.ListN.{length}
 use lib.Dec.{eqb}
 use Rattle.memory.specs.Choice.{pick}
 use Rattle.memory.proofs.Places.{has_all}
-use Rattle.integers.specs.Answers.{Answer, out_of_turn}
+use Rattle.integers.specs.Answers.{Answer, out_of_turn, on_read, Read}
 use Rattle.wire.specs.Name.{literal}
 use Rattle.fields.specs.Reading.{FieldListRead, read_field_list}
 use Rattle.fields.specs.Reading as lists
 use Rattle.instructions.specs.Instruction.{Instruction, Manages, FineInstruction, instruction_wire}
-use Rattle.instructions.specs.Reading.{read_for_encoder, on_instruction, instruction_of}
+use Rattle.instructions.specs.Reading.{read_for_encoder, instruction_of}
 use Rattle.instructions.specs.declared.read.InstructionPlace.TheVariants.{Insert, Delete, Acknowledge}
-use Rattle.instructions.specs.declared.read.InstructionRead.{InstructionRead}
-use Rattle.instructions.specs.declared.read.InstructionRead.TheVariants.{Found, Refused}
 use Rattle.instructions.proofs.Equations.{decoder-empty}
 use Rattle.instructions.proofs.Back.{decoder-back}
 use Rattle.model.specs.Parts.{part_of}
@@ -35,18 +33,20 @@ use Rattle.reply.specs.Result.{Result}
 use Rattle.link.specs.Calls.{EncoderCall}
 use Rattle.link.specs.Calls as calls
 use Rattle.link.specs.Happened.{managed, happened_there}
-use Rattle.link.proofs.Lifted.{LiftedEncoder, read_list_call, acknowledged_call, encoder_call_of}
+use Rattle.link.proofs.Lifted.{LiftedEncoder, read_list_call, acknowledged_call, encoder_call_of, encoder_unread}
 use Rattle.link.proofs.DoneBytes.{done-bytes}
+use Rattle.std.specs.Prelude.{Ok, Err}
+use Rattle.instructions.specs.declared.read.InstructionPlace.{InstructionPlace}
 
 -- ---- what bytes say: an instruction that can be said does what it says, and none do nothing
 managed-back : (i : Instruction) → Manages i × FineInstruction i → managed (instruction_wire i) ≡ done_by i
 managed-back i f =
     let back = decoder-back (instruction_wire i) i f.0 f.1 (has_all (instruction_wire i)) in
-    ap (λ (q : InstructionRead). on_instruction (λ n. []) q (λ p taken. done_by (instruction_of (instruction_wire i) p))) back.1 ∙ ap done_by back.2
+    ap (λ (q : Read InstructionPlace). on_read (λ why. []) q (λ p taken. done_by (instruction_of (instruction_wire i) p))) back.1 ∙ ap done_by back.2
 
 managed-none : managed [] ≡ []
 managed-none =
-    ap (λ (q : InstructionRead). on_instruction (λ n. []) q (λ p taken. done_by (instruction_of [] p))) (decoder-empty [] (omega arith))
+    ap (λ (q : Read InstructionPlace). on_read (λ why. []) q (λ p taken. done_by (instruction_of [] p))) (decoder-empty [] (omega arith))
 
 -- ---- a delete
 delete-happened : (E : Encoder) → FormsEncoder E → (i room : ℕ)
@@ -63,7 +63,7 @@ block-happened : (E : Encoder) (turn : Bool) (stream part room : ℕ) (l : Field
     → [] ≡ sent_happened (pick turn (read_list_call stream part room l) (at-encoder.unread out_of_turn)) o
 unfolding sent_happened
 block-happened E true stream part room (lists.FieldListRead.list fs) o = refl
-block-happened E true stream part room (lists.FieldListRead.refused number) o = refl
+block-happened E true stream part room (lists.FieldListRead.refused why) o = refl
 block-happened E false stream part room l o = refl
 
 -- ---- an acknowledgement
@@ -71,15 +71,15 @@ pick-none : (b : Bool) → ◌≡◌ {A = List Happened} (pick b [] []) []
 pick-none true = refl
 pick-none false = refl
 
-acknowledge-happened : (E : Encoder) (s : List ℕ) (r : Result) (q : InstructionRead)
-    → r.answer ≡ (encoder_call E (on_instruction at-encoder.unread q acknowledged_call)).answer
-    → pick (eqb r.answer.number 0) (on_instruction (λ n. []) q (λ p taken. done_by (instruction_of s p))) []
-    ≡ sent_happened (on_instruction at-encoder.unread q acknowledged_call) (encoder_call E (on_instruction at-encoder.unread q acknowledged_call))
+acknowledge-happened : (E : Encoder) (s : List ℕ) (r : Result) (q : Read InstructionPlace)
+    → r.answer ≡ (encoder_call E (on_read encoder_unread q acknowledged_call)).answer
+    → pick (eqb r.answer.number 0) (on_read (λ why. []) q (λ p taken. done_by (instruction_of s p))) []
+    ≡ sent_happened (on_read encoder_unread q acknowledged_call) (encoder_call E (on_read encoder_unread q acknowledged_call))
 unfolding sent_happened encoder_call
-acknowledge-happened E s r (Found (Insert i name value) taken) e = rw e refl
-acknowledge-happened E s r (Found (Delete i first last) taken) e = rw e refl
-acknowledge-happened E s r (Found (Acknowledge i) taken) e = ap (λ (a : Answer). pick (eqb a.number 0) (freed i.value ∷ []) []) e
-acknowledge-happened E s r (Refused number) e = pick-none (eqb r.answer.number 0)
+acknowledge-happened E s r (Ok (Insert i name value, taken)) e = rw e refl
+acknowledge-happened E s r (Ok (Delete i first last, taken)) e = rw e refl
+acknowledge-happened E s r (Ok (Acknowledge i, taken)) e = ap (λ (a : Answer). pick (eqb a.number 0) (freed i.value ∷ []) []) e
+acknowledge-happened E s r (Err why) e = pick-none (eqb r.answer.number 0)
 
 -- ---- every call
 pub call-happened : (E : Encoder) → FormsEncoder E → (c : EncoderCall) (r : Result) → LiftedEncoder E c r

@@ -11,14 +11,12 @@ use borrow.Author.Tests.{leb-true}
 use Rattle.memory.specs.Choice.{pick, need}
 use Rattle.memory.specs.Bytes.{Small}
 use Rattle.memory.proofs.Order.{pick-both, need-both, need-true}
-use Rattle.integers.specs.Answers.{refusal, done, over_limit, no_room, out_of_turn}
+use Rattle.integers.specs.Answers.{refusal, done, over_limit, no_room, out_of_turn, on_read, Read, number_of}
 use Rattle.fields.specs.Reading.{FieldListRead, read_field_list}
 use Rattle.fields.specs.Reading as lists
 use Rattle.fields.proofs.Lists.{list-forth}
-use Rattle.instructions.specs.Reading.{read_for_encoder, on_instruction}
+use Rattle.instructions.specs.Reading.{read_for_encoder}
 use Rattle.instructions.specs.declared.read.InstructionPlace.TheVariants.{Insert, Delete, Acknowledge}
-use Rattle.instructions.specs.declared.read.InstructionRead.{InstructionRead}
-use Rattle.instructions.specs.declared.read.InstructionRead.TheVariants.{Found, Refused}
 use Rattle.model.specs.Parts.{part_of}
 use Rattle.model.specs.Outcome.{output_bytes, refuse}
 use Rattle.model.specs.Encoder.{Encoder, start_encoder, encode_block}
@@ -36,9 +34,12 @@ use Rattle.reply.specs.Result.{Result, refused, stepped}
 use Rattle.encoder.specs.Calls.{start_call, insert_call, delete_call, on_list, block_call, acknowledged, acknowledge_call}
 use Rattle.link.specs.Calls.{EncoderCall, encoder_result, encoder_lent, EncoderBytes}
 use Rattle.link.specs.Calls as calls
-use Rattle.link.proofs.Lifted.{read_list_call, acknowledged_call, encoder_call_of, StandsEncoder, LiftedEncoder}
+use Rattle.link.proofs.Lifted.{read_list_call, acknowledged_call, encoder_call_of, StandsEncoder, LiftedEncoder, encoder_unread}
 use Rattle.link.proofs.SmallStates.{small-encoder, encoder_small}
 use Rattle.link.proofs.StatesKept.{SmallEncoderCall, KeptEncoder, kept-start-encoder, kept-encoder}
+use Rattle.std.specs.Prelude.{Ok, Err}
+use Rattle.instructions.specs.declared.read.InstructionPlace.{InstructionPlace}
+use Rattle.integers.specs.declared.answer.Refusal.{Refusal}
 
 -- ---- the model's calls that bytes give: fine fields, and strings of bytes
 
@@ -52,14 +53,14 @@ fine-encoder E (calls.EncoderCall.block stream part s out) b =
   where
     go : (r : FieldListRead) → read_field_list s ≡ r → FineLinkCall (encoder (read_list_call stream part (length out) r))
     go (lists.FieldListRead.list fs) e = (list-forth s b.0 fs e).1
-    go (lists.FieldListRead.refused number) e = tt
+    go (lists.FieldListRead.refused why) e = tt
 fine-encoder E (calls.EncoderCall.acknowledge s) b = go (read_for_encoder s)
   where
-    go : (r : InstructionRead) → FineLinkCall (encoder (on_instruction at-encoder.unread r acknowledged_call))
-    go (Found (Insert i name value) taken) = tt
-    go (Found (Delete i nontrailer trailer) taken) = tt
-    go (Found (Acknowledge i) taken) = tt
-    go (Refused number) = tt
+    go : (r : Read InstructionPlace) → FineLinkCall (encoder (on_read encoder_unread r acknowledged_call))
+    go (Ok (Insert i name value, taken)) = tt
+    go (Ok (Delete i nontrailer trailer, taken)) = tt
+    go (Ok (Acknowledge i, taken)) = tt
+    go (Err why) = tt
 
 small-encoder-call : (E : Encoder) (c : EncoderCall) → EncoderBytes c → SmallEncoderCall (encoder_call_of E c)
 unfolding encoder_call_of
@@ -70,14 +71,14 @@ small-encoder-call E (calls.EncoderCall.block stream part s out) b =
   where
     go : (r : FieldListRead) → SmallEncoderCall (read_list_call stream part (length out) r)
     go (lists.FieldListRead.list fs) = tt
-    go (lists.FieldListRead.refused number) = tt
+    go (lists.FieldListRead.refused why) = tt
 small-encoder-call E (calls.EncoderCall.acknowledge s) b = go (read_for_encoder s)
   where
-    go : (r : InstructionRead) → SmallEncoderCall (on_instruction at-encoder.unread r acknowledged_call)
-    go (Found (Insert i name value) taken) = tt
-    go (Found (Delete i nontrailer trailer) taken) = tt
-    go (Found (Acknowledge i) taken) = tt
-    go (Refused number) = tt
+    go : (r : Read InstructionPlace) → SmallEncoderCall (on_read encoder_unread r acknowledged_call)
+    go (Ok (Insert i name value, taken)) = tt
+    go (Ok (Delete i nontrailer trailer, taken)) = tt
+    go (Ok (Acknowledge i, taken)) = tt
+    go (Err why) = tt
 
 -- ---- a state laid over memory
 
@@ -118,17 +119,17 @@ module _ (m : List ℕ) (small : Small m) (forms : forms_encoder m ≡ true) whe
           ≡ stepped overlay_encoder m out (encoder_call (encoder_of m)
           (pick b (read_list_call stream part (length out) r) (at-encoder.unread out_of_turn)))
       go true (lists.FieldListRead.list fs) = refl
-      go true (lists.FieldListRead.refused number) = refused-step out number
+      go true (lists.FieldListRead.refused why) = refused-step out (number_of why)
       go false r = refused-step out out_of_turn
   same-encoder (calls.EncoderCall.acknowledge s) = need-true (forms_encoder m) _ _ forms ∙ go (read_for_encoder s)
     where
-      go : (r : InstructionRead)
-          → on_instruction (refused m []) r (acknowledged m)
-          ≡ stepped overlay_encoder m [] (encoder_call (encoder_of m) (on_instruction at-encoder.unread r acknowledged_call))
-      go (Found (Insert i name value) taken) = refused-step [] 5
-      go (Found (Delete i nontrailer trailer) taken) = refused-step [] 5
-      go (Found (Acknowledge i) taken) = refl
-      go (Refused number) = refused-step [] number
+      go : (r : Read InstructionPlace)
+          → on_read (λ (why : Refusal). refused m [] (number_of why)) r (acknowledged m)
+          ≡ stepped overlay_encoder m [] (encoder_call (encoder_of m) (on_read encoder_unread r acknowledged_call))
+      go (Ok (Insert i name value, taken)) = refused-step [] 5
+      go (Ok (Delete i nontrailer trailer, taken)) = refused-step [] 5
+      go (Ok (Acknowledge i, taken)) = refl
+      go (Err why) = refused-step [] (number_of why)
 
   pub kept-next-encoder : (c : EncoderCall) → EncoderBytes c → KeptEncoder (encoder_call (encoder_of m) (encoder_call_of (encoder_of m) c)).state
   kept-next-encoder c b =

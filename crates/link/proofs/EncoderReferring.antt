@@ -10,15 +10,13 @@ use lib.ListN.{length}
 use lib.Dec.{eqb}
 use Rattle.memory.specs.Choice.{pick}
 use Rattle.memory.specs.Bytes.{overlay}
-use Rattle.integers.specs.Answers.{Answer, out_of_turn}
+use Rattle.integers.specs.Answers.{Answer, out_of_turn, on_read, Read, number_of}
 use Rattle.fields.specs.Form.{Field, AllFine}
 use Rattle.fields.specs.Reading.{FieldListRead, read_field_list}
 use Rattle.fields.specs.Reading as lists
 use Rattle.fields.proofs.Lists.{list-forth}
-use Rattle.instructions.specs.Reading.{read_for_encoder, on_instruction}
+use Rattle.instructions.specs.Reading.{read_for_encoder}
 use Rattle.instructions.specs.declared.read.InstructionPlace.TheVariants.{Insert, Delete, Acknowledge}
-use Rattle.instructions.specs.declared.read.InstructionRead.{InstructionRead}
-use Rattle.instructions.specs.declared.read.InstructionRead.TheVariants.{Found, Refused}
 use Rattle.blocks.specs.Reading.{read_block, block_from}
 use Rattle.blocks.specs.Meaning.{block_references}
 use Rattle.blocks.proofs.Back.{block_back}
@@ -37,11 +35,13 @@ use Rattle.reply.specs.Result.{Result}
 use Rattle.link.specs.Calls.{EncoderCall, encoder_result, EncoderBytes, AllEncoderBytes, done_bytes}
 use Rattle.link.specs.Calls as calls
 use Rattle.link.specs.Histories.{block_indexes, indexes_of, referring_by, referring_since, horizon_of}
-use Rattle.link.proofs.Lifted.{StandsEncoder, LiftedEncoder, read_list_call, acknowledged_call, encoder_call_of}
+use Rattle.link.proofs.Lifted.{StandsEncoder, LiftedEncoder, read_list_call, acknowledged_call, encoder_call_of, encoder_unread}
 use Rattle.link.proofs.DoneBytes.{done-bytes}
 use Rattle.link.proofs.EncoderLifting.{lift-encoder}
 use Rattle.link.proofs.Runs.{encoder_calls_of}
 use Rattle.link.proofs.EncoderTables.{stands-forms}
+use Rattle.std.specs.Prelude.{Ok, Err}
+use Rattle.instructions.specs.declared.read.InstructionPlace.{InstructionPlace}
 
 -- two tests, one after the other or at once
 pick-and : {X : Type 0} (a b : Bool) (x y : X) → pick (a && b) x y ≡ pick a (pick b x y) y
@@ -98,16 +98,16 @@ module _ (i : ℕ) (p : Part) (h : ℕ) (E : Encoder) (F : FormsEncoder E) (stre
     block-left true (lists.FieldListRead.list fs) fine left =
         left-raises (at-encoder.block stream part fs (length out)) left (encoded-told E stream part fs (length out))
         (encoded-raises fs (length out) (fine fs refl))
-    block-left true (lists.FieldListRead.refused number) fine left = unread-left number left
+    block-left true (lists.FieldListRead.refused why) fine left = unread-left (number_of why) left
     block-left false l fine left = unread-left out_of_turn left
 
-acknowledge-horizon : (i : ℕ) (p : Part) (h : ℕ) (E : Encoder) (r : InstructionRead)
-    → h ≡ model.horizon_after i p h E (on_instruction at-encoder.unread r acknowledged_call)
+acknowledge-horizon : (i : ℕ) (p : Part) (h : ℕ) (E : Encoder) (r : Read InstructionPlace)
+    → h ≡ model.horizon_after i p h E (on_read encoder_unread r acknowledged_call)
 unfolding model.horizon_after
-acknowledge-horizon i p h E (Found (Insert j name value) taken) = refl
-acknowledge-horizon i p h E (Found (Delete j first last) taken) = refl
-acknowledge-horizon i p h E (Found (Acknowledge j) taken) = refl
-acknowledge-horizon i p h E (Refused number) = refl
+acknowledge-horizon i p h E (Ok (Insert j name value, taken)) = refl
+acknowledge-horizon i p h E (Ok (Delete j first last, taken)) = refl
+acknowledge-horizon i p h E (Ok (Acknowledge j, taken)) = refl
+acknowledge-horizon i p h E (Err why) = refl
 
 -- ---- the horizon of streams
 horizon-begun : (b : Bool) (ss : List ℕ) → horizon_of (pick b [] ss) ≡ pick b 0 (horizon_of ss)

@@ -11,19 +11,17 @@ use lib.Dec.{eqb}
 use borrow.Author.Tests.{eqb-false}
 use Rattle.memory.specs.Choice.{pick}
 use Rattle.memory.specs.Bytes.{Small, overlay}
-use Rattle.integers.specs.Answers.{Answer, done, out_of_turn}
+use Rattle.integers.specs.Answers.{Answer, done, out_of_turn, on_read, Read, number_of}
 use Rattle.fields.specs.Form.{Field}
 use Rattle.fields.specs.Reading.{FieldListRead, read_field_list}
 use Rattle.fields.specs.Reading as lists
 use Rattle.fields.proofs.Lists.{list-forth}
 use Rattle.fields.proofs.Walk.{list-number}
 use Rattle.instructions.specs.Instruction.{Instruction, FineInstruction, Manages, instruction_wire}
-use Rattle.instructions.specs.Reading.{read_for_encoder, on_instruction}
+use Rattle.instructions.specs.Reading.{read_for_encoder}
 use Rattle.instructions.specs.declared.read.InstructionPlace.TheVariants.{Insert, Delete, Acknowledge}
-use Rattle.instructions.specs.declared.read.InstructionRead.{InstructionRead}
-use Rattle.instructions.specs.declared.read.InstructionRead.TheVariants.{Found, Refused}
 use Rattle.instructions.proofs.Bounds.{encoder-good}
-use Rattle.instructions.proofs.Told.{encoder_refusals, InstructionTold, encoder-told}
+use Rattle.instructions.proofs.Told.{encoder_refusals, encoder-told}
 use Rattle.blocks.specs.Reading.{read_block}
 use Rattle.blocks.proofs.Back.{block_back}
 use Rattle.model.specs.Parts.{part_of}
@@ -41,10 +39,13 @@ use Rattle.reply.specs.Result.{Result}
 use Rattle.link.specs.Calls.{EncoderCall, encoder_lent, EncoderBytes}
 use Rattle.link.specs.Calls as calls
 use Rattle.link.specs.Claims.{Event}
-use Rattle.link.proofs.Lifted.{read_list_call, acknowledged_call, encoder_call_of}
+use Rattle.link.proofs.Lifted.{read_list_call, acknowledged_call, encoder_call_of, encoder_unread}
 use Rattle.link.proofs.Steps.{Speaks, said, wrote, acknowledged}
 use Rattle.link.proofs.QuietSteps.{TiedStep, idle-step, Left, done_none, done-some, refuses-some, refused-number}
 use Rattle.link.proofs.QuietSteps.{quiet-speech, quiet-block, quiet-acknowledgement}
+use Rattle.std.specs.Prelude.{Ok, Err}
+use Rattle.instructions.specs.declared.read.InstructionPlace.{InstructionPlace}
+use Rattle.integers.proofs.Told.{RefusedBy}
 
 -- an answer that is not 0, of a result with that answer
 unlike : (r : Result) (a : Answer) → r.answer ≡ a → eqb a.number 0 ≡ false → eqb r.answer.number 0 ≡ false
@@ -128,9 +129,9 @@ module _ (E : Encoder) (F : FormsEncoder E) (r : Result) (stream part : ℕ) (s 
       (encoder_call E (pick b (read_list_call stream part (length out) q) (at-encoder.unread out_of_turn))))
   unfolding encoder_call encoder_event
   written_step true (lists.FieldListRead.list fs) small e l = block-step fs small e l
-  written_step true (lists.FieldListRead.refused number) small e l =
-      let f : number ≡ 0 → ⊥ = λ z. ⊎_elim (λ d. omega (arith, z)) (λ d. omega (arith, z)) (list-number s (length s) 0 [] number e) in
-      unwritten number f (ap (λ (a : Answer). a.number) l.answer)
+  written_step true (lists.FieldListRead.refused why) small e l =
+      let f : number_of why ≡ 0 → ⊥ = λ z. ⊎_elim (λ d. omega (arith, z)) (λ d. omega (arith, z)) (list-number s (length s) 0 [] why e) in
+      unwritten (number_of why) f (ap (λ (a : Answer). a.number) l.answer)
   written_step false q small e l = unwritten out_of_turn (λ z. omega (arith, z)) (ap (λ (a : Answer). a.number) l.answer)
 
 -- ---- an acknowledgement
@@ -140,14 +141,14 @@ acknowledged-taken E i taken =
     (λ a z e. absurd (eqb-false a.number 0 z e)) i taken (λ e there gone z. refl)
 
 module _ (E : Encoder) (r : Result) (s : List ℕ) where
-  acknowledged-step : (q : InstructionRead) → read_for_encoder s ≡ q → InstructionTold encoder_refusals q
-      → Left r [] (encoder_call E (on_instruction at-encoder.unread q acknowledged_call))
-      → TiedStep (Event.by_encoder (calls.EncoderCall.acknowledge s) r) (encoder_event (on_instruction at-encoder.unread q acknowledged_call)
-      (encoder_call E (on_instruction at-encoder.unread q acknowledged_call)))
+  acknowledged-step : (q : Read InstructionPlace) → read_for_encoder s ≡ q → RefusedBy encoder_refusals q
+      → Left r [] (encoder_call E (on_read encoder_unread q acknowledged_call))
+      → TiedStep (Event.by_encoder (calls.EncoderCall.acknowledge s) r) (encoder_event (on_read encoder_unread q acknowledged_call)
+      (encoder_call E (on_read encoder_unread q acknowledged_call)))
   unfolding encoder_call encoder_event
-  acknowledged-step (Found (Insert i name value) taken) e t l = let k = (encoder-good s _ taken e).kind in nope (cc)
-  acknowledged-step (Found (Delete i nontrailer trailer) taken) e t l = let k = (encoder-good s _ taken e).kind in nope (cc)
-  acknowledged-step (Found (Acknowledge i) taken) e t l = record {
+  acknowledged-step (Ok (Insert i name value, taken)) e t l = let k = (encoder-good s _ taken e).kind in nope (cc)
+  acknowledged-step (Ok (Delete i nontrailer trailer, taken)) e t l = let k = (encoder-good s _ taken e).kind in nope (cc)
+  acknowledged-step (Ok (Acknowledge i, taken)) e t l = record {
     step = acknowledged s r i.value (record {
       place = Acknowledge i;
       taken = taken;
@@ -159,10 +160,10 @@ module _ (E : Encoder) (r : Result) (s : List ℕ) where
     byte = refl;
     same = ap (λ (a : Answer). model.acknowledged i.value a.number) l.answer;
   }
-  acknowledged-step (Refused number) e t l =
-      let n : r.answer.number ≡ number = ap (λ (a : Answer). a.number) l.answer in
+  acknowledged-step (Err why) e t l =
+      let n : r.answer.number ≡ number_of why = ap (λ (a : Answer). a.number) l.answer in
       idle-step (Event.by_encoder (calls.EncoderCall.acknowledge s) r)
-      (quiet-acknowledgement s r (number, e, n, λ z. refuses-some encoder_refusals refl number t (sym n ∙ z)))
+      (quiet-acknowledgement s r (why, e, n, λ z. refuses-some encoder_refusals refl (number_of why) t (sym n ∙ z)))
 
 -- ---- every call
 pub encoder-step : (E : Encoder) → FormsEncoder E → (c : EncoderCall) → EncoderBytes c → (r : Result)

@@ -10,12 +10,10 @@ use lib.Dec.{eqb, leb}
 use borrow.Author.Tests.{ne_eqb}
 use Rattle.memory.specs.Choice.{pick, need}
 use Rattle.memory.proofs.Order.{pick-false}
-use Rattle.integers.specs.Answers.{Answer, refusal, out_of_turn, not_allowed, vacant}
+use Rattle.integers.specs.Answers.{Answer, refusal, out_of_turn, not_allowed, vacant, on_read, Read, number_of}
 use Rattle.integers.specs.Integer.{largest}
 use Rattle.instructions.specs.Instruction.{Instruction, insert, delete, acknowledge}
-use Rattle.instructions.specs.Reading.{read_for_decoder, on_instruction, instruction_of}
-use Rattle.instructions.specs.declared.read.InstructionRead.{InstructionRead}
-use Rattle.instructions.specs.declared.read.InstructionRead.TheVariants.{Found, Refused}
+use Rattle.instructions.specs.Reading.{read_for_decoder, instruction_of}
 use Rattle.blocks.specs.Reading.{BlockRead, read_block}
 use Rattle.blocks.specs.Reading as blocks
 use Rattle.blocks.proofs.Told.{BlockTold, block-told}
@@ -30,12 +28,14 @@ use Rattle.model_laws.proofs.DecoderWays as ways
 use Rattle.model_laws.proofs.DecoderHistory.{contents_of}
 use Rattle.parts.specs.Turn.{part_turn}
 use Rattle.reply.specs.Result.{Result}
-use Rattle.link.specs.Calls.{DecoderCall, decoder_result, AllDecoderBytes, decoder_after}
+use Rattle.link.specs.Calls.{DecoderCall, decoder_result, AllDecoderBytes}
 use Rattle.link.specs.Calls as calls
 use Rattle.link.specs.Histories.{finishes, finished_by, finished_after, hold_told, hold_answer}
-use Rattle.link.proofs.Lifted.{StandsDecoder, read_block_call, decoder_call_of}
+use Rattle.link.proofs.Lifted.{StandsDecoder, read_block_call, decoder_call_of, decoder_unread}
 use Rattle.link.proofs.DecoderLifting.{lift-decoder}
 use Rattle.link.proofs.Runs.{decoder_calls_of}
+use Rattle.std.specs.Prelude.{Ok, Err}
+use Rattle.instructions.specs.declared.read.InstructionPlace.{InstructionPlace}
 
 -- ---- one call
 module _ (D : Decoder) where
@@ -48,10 +48,10 @@ module _ (D : Decoder) where
   read_keeps (delete i first last) taken = ways.delete-ways Kept D (λ a z. refl) i first last taken (λ h e f. refl)
   read_keeps (acknowledge i) taken = ways.acknowledge-ways Kept D (λ a z. refl) i taken
 
-  reads-keep : (s : List ℕ) (q : InstructionRead) → Kept (decoder_call D (on_instruction at-decoder.unread q (λ p taken. at-decoder.read (instruction_of s p) taken)))
+  reads-keep : (s : List ℕ) (q : Read InstructionPlace) → Kept (decoder_call D (on_read decoder_unread q (λ p taken. at-decoder.read (instruction_of s p) taken)))
   unfolding decoder_call
-  reads-keep s (Found p taken) = read_keeps (instruction_of s p) taken
-  reads-keep s (Refused number) = refl
+  reads-keep s (Ok (p, taken)) = read_keeps (instruction_of s p) taken
+  reads-keep s (Err why) = refl
 
   -- an answer that finishes where it is 0
   abbrev Finishes : Marks → Outcome Decoder → Type 0
@@ -63,8 +63,8 @@ module _ (D : Decoder) where
   block-finishes s part room true (blocks.BlockRead.block rs) t =
       ways.block-ways (Finishes (finishes (part_of part) s D.finished)) D (λ a z. pick-false (eqb a.number 0) _ _ z) s part rs room
       (λ p fs e low turn m fits. ap (λ (o : Option Part). finishes o s D.finished) e)
-  block-finishes s part room true (blocks.BlockRead.refused k) t =
-      pick-false (eqb k 0) _ _ (ne_eqb k 0 (λ z. rw z at t))
+  block-finishes s part room true (blocks.BlockRead.refused why) t =
+      pick-false (eqb (number_of why) 0) _ _ (ne_eqb (number_of why) 0 (λ z. rw z at t))
   block-finishes s part room false q t = refl
 
   close-finishes : (k : _) (s : ℕ) → Finishes (closed k s D.finished) (decoder_call D (at-decoder.close k s))

@@ -6,11 +6,9 @@ use mathlib.Core.Option.{Option}
 use mathlib.Core.List.{List, []}
 use borrow.Author.Tests.{eqb-false}
 use Rattle.memory.specs.Bytes.{Small}
-use Rattle.integers.specs.Answers.{Answer}
+use Rattle.integers.specs.Answers.{Answer, on_read, Read}
 use Rattle.instructions.specs.Instruction.{Instruction, insert, delete, acknowledge}
-use Rattle.instructions.specs.Reading.{read_for_decoder, on_instruction, instruction_of}
-use Rattle.instructions.specs.declared.read.InstructionRead.{InstructionRead}
-use Rattle.instructions.specs.declared.read.InstructionRead.TheVariants.{Found, Refused}
+use Rattle.instructions.specs.Reading.{read_for_decoder, instruction_of}
 use Rattle.model.specs.Outcome.{Outcome}
 use Rattle.model.specs.Decoder.{Decoder, Held, slot_in, delete_of}
 use Rattle.model.specs.DecoderCalls.{decoder_call}
@@ -22,8 +20,10 @@ use Rattle.link.specs.Calls.{decoder_result}
 use Rattle.link.specs.Calls as calls
 use Rattle.link.specs.Happened.{managed}
 use Rattle.link.specs.Histories.{Lawful}
-use Rattle.link.proofs.Lifted.{StandsDecoder, decoder_call_of}
+use Rattle.link.proofs.Lifted.{StandsDecoder, decoder_call_of, decoder_unread}
 use Rattle.link.proofs.DecoderLifting.{lift-decoder}
+use Rattle.std.specs.Prelude.{Ok, Err}
+use Rattle.instructions.specs.declared.read.InstructionPlace.{InstructionPlace}
 
 module _ (D : Decoder) where
   abbrev Allowed : Instruction → Outcome Decoder → Type 0
@@ -46,8 +46,8 @@ unfolding decoder_call_of
 lawful-read m D h s small z =
     go (read_for_decoder s) (sym (ap (λ (a : Answer). a.number) (lift-decoder m D h (calls.DecoderCall.read s) small).answer) ∙ z)
   where
-    go : (q : InstructionRead)
-        → (decoder_call D (on_instruction at-decoder.unread q (λ p taken. at-decoder.read (instruction_of s p) taken))).answer.number ≡ 0
-        → Lawful (λ k. is_held (contents_of D k)) (delete_of D) (on_instruction (λ n. []) q (λ p taken. done_by (instruction_of s p)))
-    go (Found p taken) e = lawful-call D (instruction_of s p) taken e
-    go (Refused number) e = tt
+    go : (q : Read InstructionPlace)
+        → (decoder_call D (on_read decoder_unread q (λ p taken. at-decoder.read (instruction_of s p) taken))).answer.number ≡ 0
+        → Lawful (λ k. is_held (contents_of D k)) (delete_of D) (on_read (λ why. []) q (λ p taken. done_by (instruction_of s p)))
+    go (Ok (p, taken)) e = lawful-call D (instruction_of s p) taken e
+    go (Err why) e = tt

@@ -10,7 +10,6 @@ use lib.ListN.{length}
 use Rattle.fields.specs.Form.{list_form}
 use Rattle.instructions.specs.Instruction.{Instruction}
 use Rattle.instructions.specs.Reading.{read_for_decoder, read_for_encoder}
-use Rattle.instructions.specs.declared.read.InstructionRead.{InstructionRead}
 use Rattle.blocks.specs.Representation.{Representation}
 use Rattle.blocks.specs.Reading.{block, read_block}
 use Rattle.blocks.specs.Meaning.{Refers}
@@ -27,16 +26,19 @@ use Rattle.link.proofs.Steps.{Misread, Unreadable, Step, byte_of, model_of, byte
 use Rattle.link.proofs.StepHistories.{held_same, SameBlock, alike, alike-model}
 use Rattle.link.proofs.StepBorders.{Split, split_steps, events-around, heard-border, heard-next, acked-next}
 use Rattle.link.proofs.LinkRules.{told-by-bytes}
+use Rattle.integers.specs.Answers.{Read, number_of}
+use Rattle.instructions.specs.declared.read.InstructionPlace.{InstructionPlace}
+use Rattle.integers.specs.declared.answer.Refusal.TheVariants.{Truncated}
 
 fields-bytes : (o : Output) (v : model.Written) → o ≡ outcome.fields v.fields → output_bytes o ≡ list_form v.fields
 unfolding output_bytes
 fields-bytes o v e = ap output_bytes e
 
 -- bytes that are refused, of the whole next instruction or of a cut one
-cut-answer : (reads : List ℕ → InstructionRead) (Says : Instruction → Type 0) (is : List Instruction) (h : ℕ) (s : List ℕ) (r : Result) → Misread reads s r
+cut-answer : (reads : List ℕ → Read InstructionPlace) (Says : Instruction → Type 0) (is : List Instruction) (h : ℕ) (s : List ℕ) (r : Result) → Misread reads s r
     → Whole reads is h s ⊎ Ends reads Says s → (r.answer.number ≡ 2) × Cut Says s
 cut-answer reads Says is h s r f (inl w) = let a = f.1 in let b = w.found in nope (cc)
-cut-answer reads Says is h s r f (inr e) = let a = f.1 in let b = e.0 in let z : f.0 ≡ 2 = cc in (f.2 ∙ z, e.1)
+cut-answer reads Says is h s r f (inr e) = let a = f.1 in let b = e.0 in let z : f.0 ≡ Truncated = cc in (f.2 ∙ ap number_of z, e.1)
 
 module _ (ss : List Step) (R : Rules (bytes ss)) (M : model.AbstractServed (modelled ss)) where
   -- ---- an offered block

@@ -11,12 +11,10 @@ use lib.Dec.{ltb, eqb}
 use borrow.Author.Tests.{eqb-false}
 use Rattle.memory.specs.Choice.{pick, need}
 use Rattle.memory.proofs.Order.{pick-false}
-use Rattle.integers.specs.Answers.{Answer, out_of_turn}
+use Rattle.integers.specs.Answers.{Answer, out_of_turn, on_read, Read, number_of}
 use Rattle.instructions.specs.Instruction.{Instruction, insert, delete, acknowledge, FineIndex, instruction_wire}
-use Rattle.instructions.specs.Reading.{read_for_decoder, on_instruction, instruction_of}
-use Rattle.instructions.specs.declared.read.InstructionRead.{InstructionRead}
-use Rattle.instructions.specs.declared.read.InstructionRead.TheVariants.{Found, Refused}
-use Rattle.instructions.proofs.Told.{decoder_refusals, InstructionTold, decoder-told}
+use Rattle.instructions.specs.Reading.{read_for_decoder, instruction_of}
+use Rattle.instructions.proofs.Told.{decoder_refusals, decoder-told}
 use Rattle.blocks.specs.Representation.{Representation}
 use Rattle.blocks.specs.Reading.{BlockRead, read_block}
 use Rattle.blocks.specs.Reading as blocks
@@ -39,7 +37,7 @@ use Rattle.reply.specs.Result.{Result}
 use Rattle.link.specs.Calls.{DecoderCall, DecoderBytes, decoder_result, encoder_result, done_bytes}
 use Rattle.link.specs.Calls as calls
 use Rattle.link.specs.Claims.{LinkCall, Ends, Event, turn, events, LinkBytes, AllLinkBytes, Acknowledges}
-use Rattle.link.proofs.Lifted.{read_block_call, decoder_call_of, StandsDecoder, StandsEncoder}
+use Rattle.link.proofs.Lifted.{read_block_call, decoder_call_of, StandsDecoder, StandsEncoder, decoder_unread}
 use Rattle.link.proofs.DecoderLifting.{lift-decoder}
 use Rattle.link.proofs.EncoderLifting.{fine-encoder, kept-self-encoder, lift-encoder}
 use Rattle.link.proofs.DecoderHistory.{forms-decoder}
@@ -47,6 +45,9 @@ use Rattle.link.proofs.Steps.{Step, heard, offered, freed, told, reset, bytes, m
 use Rattle.link.proofs.QuietSteps.{TiedStep, idle-step, Left, done_none, done-told, done-some, refuses-some}
 use Rattle.link.proofs.QuietSteps.{quiet_read, quiet-offer, quiet-closed, quiet-collect, quiet-enquiry}
 use Rattle.link.proofs.EncoderSteps.{encoder-step}
+use Rattle.std.specs.Prelude.{Ok, Err}
+use Rattle.instructions.specs.declared.read.InstructionPlace.{InstructionPlace}
+use Rattle.integers.proofs.Told.{RefusedBy}
 
 -- ---- what the model's calls at the decoder answer
 
@@ -98,22 +99,22 @@ pub record LinkStep (S : Ends) (M : model.Ends) (c : LinkCall) : Type 0 where
 encoder-forms : (m : List ℕ) (E : Encoder) → StandsEncoder m E → FormsEncoder E
 encoder-forms m E T = subst FormsEncoder T.state (kept-self-encoder m T.small T.forms).fits.forms
 
-number_of : (r : Result) (a : Answer) → r.answer ≡ a → r.answer.number ≡ a.number
-number_of r a e = ap (λ (x : Answer). x.number) e
+answer-number : (r : Result) (a : Answer) → r.answer ≡ a → r.answer.number ≡ a.number
+answer-number r a e = ap (λ (x : Answer). x.number) e
 
 module _ (S : Ends) (M : model.Ends) (J : Joined S M) where
   abbrev D : Decoder
   D = M.decoder
 
   -- what was read, by its reading
-  read_step : (n : ℕ) (s : List ℕ) (q : InstructionRead) → read_for_decoder s ≡ q → InstructionTold decoder_refusals q
+  read_step : (n : ℕ) (s : List ℕ) (q : Read InstructionPlace) → read_for_decoder s ≡ q → RefusedBy decoder_refusals q
       → Left (decoder_result S.decoder (calls.DecoderCall.read s)) []
-      (decoder_call D (on_instruction at-decoder.unread q (λ p taken. at-decoder.read (instruction_of s p) taken)))
+      (decoder_call D (on_read decoder_unread q (λ p taken. at-decoder.read (instruction_of s p) taken)))
       → StandsDecoder (decoder_result S.decoder (calls.DecoderCall.read s)).memory
-      (decoder_call D (on_instruction at-decoder.unread q (λ p taken. at-decoder.read (instruction_of s p) taken))).state
+      (decoder_call D (on_read decoder_unread q (λ p taken. at-decoder.read (instruction_of s p) taken))).state
       → LinkStep S M (LinkCall.at_decoder n (calls.DecoderCall.read s))
   unfolding turn model.turn model.decoder_event decoder_call
-  read_step n s (Found p taken) e t l h =
+  read_step n s (Ok (p, taken)) e t l h =
       let i : Instruction = instruction_of s p in
       let r : Result = decoder_result S.decoder (calls.DecoderCall.read s) in
       record {
@@ -125,20 +126,20 @@ module _ (S : Ends) (M : model.Ends) (J : Joined S M) where
             taken = taken;
             found = e;
             same = refl;
-            told = λ z. ap (λ (a : Answer). a.first) l.answer ∙ read_taken D i taken (sym (number_of r _ l.answer) ∙ z);
+            told = λ z. ap (λ (a : Answer). a.first) l.answer ∙ read_taken D i taken (sym (answer-number r _ l.answer) ∙ z);
           });
           byte = refl;
           same = ap (λ (a : Answer). model.heard i a.number) l.answer;
         };
         joined = record { encoder-stands = J.encoder-stands; decoder-stands = h };
       }
-  read_step n s (Refused number) e t l h =
+  read_step n s (Err why) e t l h =
       let r : Result = decoder_result S.decoder (calls.DecoderCall.read s) in
-      let q : r.answer.number ≡ number = number_of r _ l.answer in
+      let q : r.answer.number ≡ number_of why = answer-number r _ l.answer in
       record {
-        call = model.decoder n (at-decoder.unread number);
+        call = model.decoder n (decoder_unread why);
         fine = tt;
-        tied = idle-step (Event.by_decoder n (calls.DecoderCall.read s) r) (quiet_read n s r (number, e, q, λ z. refuses-some decoder_refusals refl number t (sym q ∙ z)));
+        tied = idle-step (Event.by_decoder n (calls.DecoderCall.read s) r) (quiet_read n s r (why, e, q, λ z. refuses-some decoder_refusals refl (number_of why) t (sym q ∙ z)));
         joined = record { encoder-stands = J.encoder-stands; decoder-stands = h };
       }
 
@@ -161,7 +162,7 @@ module _ (S : Ends) (M : model.Ends) (J : Joined S M) where
             step = offered n stream part s out r rs o.output (record {
               reads = e;
               written = λ z. done-told r out (output_bytes o.output) t.fits z
-                  (ap (λ (a : Answer). a.first) l.answer ∙ t.told (sym (number_of r _ l.answer) ∙ z)) l.output;
+                  (ap (λ (a : Answer). a.first) l.answer ∙ t.told (sym (answer-number r _ l.answer) ∙ z)) l.output;
             });
             byte = refl;
             same = ap (λ (a : Answer). model.offered n stream part rs (length out) a o.output) l.answer;
@@ -177,22 +178,22 @@ module _ (S : Ends) (M : model.Ends) (J : Joined S M) where
     offer-step b f (blocks.BlockRead.block rs) e t l h =
         let d = turned D stream part rs (length out) b f in
         offer-read rs e (subst (Left offer-result out) d l) (subst (λ (o : Outcome Decoder). StandsDecoder offer-result.memory o.state) d h)
-    offer-step true f (blocks.BlockRead.refused number) e t l h =
-        let z : offer-result.answer.number ≡ number = number_of offer-result _ l.answer in
+    offer-step true f (blocks.BlockRead.refused why) e t l h =
+        let z : offer-result.answer.number ≡ number_of why = answer-number offer-result _ l.answer in
         record {
-          call = model.decoder n (at-decoder.unread number);
+          call = model.decoder n (decoder_unread why);
           fine = tt;
           tied = idle-step (Event.by_decoder n (calls.DecoderCall.block stream part s out) offer-result)
-              (quiet-offer n stream part s out offer-result (number, e, λ y. refuses-some block_refusals refl number t (sym z ∙ y)));
+              (quiet-offer n stream part s out offer-result (why, e, λ y. refuses-some block_refusals refl (number_of why) t (sym z ∙ y)));
           joined = record { encoder-stands = J.encoder-stands; decoder-stands = h };
         }
-    offer-step false f (blocks.BlockRead.refused number) e t l h =
-        let z : offer-result.answer.number ≡ out_of_turn = number_of offer-result _ l.answer in
+    offer-step false f (blocks.BlockRead.refused why) e t l h =
+        let z : offer-result.answer.number ≡ out_of_turn = answer-number offer-result _ l.answer in
         record {
-          call = model.decoder n (at-decoder.unread number);
+          call = model.decoder n (decoder_unread why);
           fine = tt;
           tied = idle-step (Event.by_decoder n (calls.DecoderCall.block stream part s out) offer-result)
-              (quiet-offer n stream part s out offer-result (number, e, λ y. omega (arith, z, y)));
+              (quiet-offer n stream part s out offer-result (why, e, λ y. omega (arith, z, y)));
           joined = record { encoder-stands = J.encoder-stands; decoder-stands = h };
         }
 
@@ -203,9 +204,9 @@ module _ (S : Ends) (M : model.Ends) (J : Joined S M) where
       let e : Event = Event.by_decoder n (calls.DecoderCall.close c stream) r in
       ways.close-ways (λ (o : Outcome Decoder). Left r [] o → TiedStep e (told_by c stream o.answer)) D
       (λ a z l. subst (TiedStep e) (sym (pick-false (eqb a.number 0) (model.told c stream) model.quiet z))
-      (idle-step e (quiet-closed n c stream r (λ y. eqb-false a.number 0 z (sym (number_of r _ l.answer) ∙ y)))))
+      (idle-step e (quiet-closed n c stream r (λ y. eqb-false a.number 0 z (sym (answer-number r _ l.answer) ∙ y)))))
       c stream
-      (λ below l. record { step = told n c stream r (number_of r _ l.answer); byte = refl; same = refl })
+      (λ below l. record { step = told n c stream r (answer-number r _ l.answer); byte = refl; same = refl })
 
   freed-tied : (n : ℕ) (out : List ℕ) (r : Result) (i : ℕ) → Acknowledges (acknowledge i) → done_bytes r ≡ instruction_wire (acknowledge i)
       → TiedStep (Event.by_decoder n (calls.DecoderCall.collect out) r) (model.freed i)

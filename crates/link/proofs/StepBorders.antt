@@ -15,7 +15,6 @@ use Rattle.memory.specs.Choice.{pick}
 use Rattle.memory.proofs.Order.{either, pick_true, pick-false}
 use Rattle.instructions.specs.Instruction.{Instruction, acknowledge, instruction_wire}
 use Rattle.instructions.specs.Reading.{read_for_decoder, read_for_encoder, instruction_of}
-use Rattle.instructions.specs.declared.read.InstructionRead.{InstructionRead}
 use Rattle.model.specs.Events.{at}
 use Rattle.model_laws.specs.Link as model
 use Rattle.model_laws.proofs.Tables.{nope}
@@ -28,6 +27,8 @@ use Rattle.link.proofs.Wires.{for-decoder, for-encoder}
 use Rattle.link.proofs.Steps.{ReadAs, Step, said, wrote, acknowledged, heard, offered, freed, told, quiet, byte_of, model_of, bytes, modelled}
 use Rattle.link.proofs.Steps as steps
 use Rattle.link.proofs.StepHistories.{said-acknowledged, management-said, acknowledgements-freed, each-said, each-freed}
+use Rattle.integers.specs.Answers.{Read}
+use Rattle.instructions.specs.declared.read.InstructionPlace.{InstructionPlace}
 
 -- ---- a list of steps and its lists of events
 
@@ -89,18 +90,19 @@ border-step : (is js ks : List Instruction) (h k n b h' k' : ℕ) → ks ≡ is 
 border-step is js ks h k n b h' k' l x y B m = rw (l, x, y) (border-more is js (h + n) (k + b) (border-moves is h k n b B m))
 
 -- a read of the whole next instruction reads that one
-pub next-read : (reads : List ℕ → InstructionRead) (Says : Instruction → Type 0) (is : List Instruction) (h : ℕ) (s : List ℕ) (r : Result) (i : Instruction)
+pub next-read : (reads : List ℕ → Read InstructionPlace) (Says : Instruction → Type 0) (is : List Instruction) (h : ℕ) (s : List ℕ) (r : Result) (i : Instruction)
     (f : ReadAs reads s r i) → Whole reads is h s ⊎ Ends reads Says s → (at h is ≡ some i) × (f.taken ≡ length (instruction_wire i))
 next-read reads Says is h s r i f (inl w) =
     let a = f.found in
     let b = w.found in
-    let p : w.place ≡ f.place = cc in
-    let t : f.taken ≡ length (instruction_wire w.next) = cc in
+    let q : (w.place, length (instruction_wire w.next)) ≡ (f.place, f.taken) = cc in
+    let p = ap (λ (x : InstructionPlace × ℕ). x.0) q in
+    let t = sym (ap (λ (x : InstructionPlace × ℕ). x.1) q) in
     let n : w.next ≡ i = sym w.same ∙ ap (instruction_of s) p ∙ f.same in
     (w.there ∙ ap some n, t ∙ ap (λ (j : Instruction). length (instruction_wire j)) n)
 next-read reads Says is h s r i f (inr e) = let a = f.found in let b = e.0 in nope (cc)
 
-read-moves : (reads : List ℕ → InstructionRead) (Says : Instruction → Type 0) (is : List Instruction) (h : ℕ) (s : List ℕ) (r : Result) (i : Instruction)
+read-moves : (reads : List ℕ → Read InstructionPlace) (Says : Instruction → Type 0) (is : List Instruction) (h : ℕ) (s : List ℕ) (r : Result) (i : Instruction)
     → ReadAs reads s r i → Whole reads is h s ⊎ Ends reads Says s
     → Moves is h (pick (eqb r.answer.number 0) 1 0 + 0) (pick (eqb r.answer.number 0) r.answer.first 0)
 read-moves reads Says is h s r i f w =

@@ -16,10 +16,8 @@ use Rattle.memory.proofs.Places.{has_all}
 use Rattle.memory.proofs.Order.{pick_true}
 use Rattle.fields.specs.Form.{list_form}
 use Rattle.instructions.specs.Instruction.{Instruction, insert, delete, acknowledge, FineIndex, Manages, instruction_wire}
-use Rattle.instructions.specs.Reading.{read_for_decoder, read_for_encoder, on_instruction, instruction_of}
+use Rattle.instructions.specs.Reading.{read_for_decoder, read_for_encoder, instruction_of}
 use Rattle.instructions.specs.declared.read.InstructionPlace.{InstructionPlace}
-use Rattle.instructions.specs.declared.read.InstructionRead.{InstructionRead}
-use Rattle.instructions.specs.declared.read.InstructionRead.TheVariants.{Found}
 use Rattle.instructions.proofs.Back.{encoder-back}
 use Rattle.instructions.proofs.Bounds.{decoder-good}
 use Rattle.blocks.specs.Reading.{block, read_block}
@@ -34,24 +32,13 @@ use Rattle.reply.specs.Result.{Result}
 use Rattle.link.specs.Calls.{EncoderCall, done_bytes}
 use Rattle.link.specs.Calls as calls
 use Rattle.link.specs.Happened.{happened}
-use Rattle.link.specs.Claims.{
-  Event,
-  management_of,
-  management_in,
-  acknowledgements_in,
-  acknowledged_of,
-  Written,
-  written_of,
-  written_from,
-  happened_of,
-  happened_in,
-  Managed,
-  Acknowledges,
-}
+use Rattle.link.specs.Claims.{Event, management_of, management_in, acknowledgements_in, acknowledged_of, Written, written_of, written_from, happened_of, happened_in, Managed, Acknowledges}
 use Rattle.link.specs.Claims as claims
 use Rattle.link.proofs.Wires.{wires, Border, border-start, border-more, border-next}
 use Rattle.link.proofs.Steps.{Speaks, ReadAs, Step, said, wrote, acknowledged, heard, offered, freed, told, quiet, bytes, modelled}
 use Rattle.link.proofs.Steps as steps
+use Rattle.std.specs.Prelude.{Ok}
+use Rattle.integers.specs.Answers.{Read, on_read}
 
 -- ---- an insert or a delete on bytes
 said-management : (c : EncoderCall) (r : Result) → Speaks c → management_of (Event.by_encoder c r) ≡ done_bytes r
@@ -146,8 +133,8 @@ held_one i h true (delete j first last) n m e = refl
 held_one i h false (delete j first last) n m e = refl
 held_one i h b (acknowledge j) n m e = absurd m
 
-on-found : (s : List ℕ) (q : InstructionRead) (p : InstructionPlace) (taken : ℕ) (j : Instruction)
-    → q ≡ Found p taken → instruction_of s p ≡ j → on_instruction (λ n. []) q (λ p taken. done_by (instruction_of s p)) ≡ done_by j
+on-found : (s : List ℕ) (q : Read InstructionPlace) (p : InstructionPlace) (taken : ℕ) (j : Instruction)
+    → q ≡ Ok (p, taken) → instruction_of s p ≡ j → on_read (λ why. []) q (λ p taken. done_by (instruction_of s p)) ≡ done_by j
 on-found s q p taken j e d = rw e (ap done_by d)
 
 heard-did : (s : List ℕ) (r : Result) (j : Instruction) → ReadAs read_for_decoder s r j

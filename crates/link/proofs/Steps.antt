@@ -5,13 +5,11 @@ use mathlib.Core.Logic.{◌⊎◌, inl, inr}
 use Prim.Native.Nat.{ℕ}
 use mathlib.Core.List.{List, [], map}
 use lib.ListN.{length}
-use Rattle.integers.specs.Answers.{Answer}
+use Rattle.integers.specs.Answers.{Answer, Read, number_of}
 use Rattle.fields.specs.Form.{Field, list_form}
 use Rattle.instructions.specs.Instruction.{Instruction, acknowledge, FineIndex, FineInstruction, Manages, instruction_wire}
 use Rattle.instructions.specs.Reading.{read_for_decoder, read_for_encoder, instruction_of}
 use Rattle.instructions.specs.declared.read.InstructionPlace.{InstructionPlace}
-use Rattle.instructions.specs.declared.read.InstructionRead.{InstructionRead}
-use Rattle.instructions.specs.declared.read.InstructionRead.TheVariants.{Found, Refused}
 use Rattle.blocks.specs.Representation.{Representation}
 use Rattle.blocks.specs.Reading.{block, read_block}
 use Rattle.blocks.specs.Reading as reading
@@ -22,6 +20,8 @@ use Rattle.reply.specs.Result.{Result}
 use Rattle.link.specs.Calls.{DecoderCall, EncoderCall, done_bytes}
 use Rattle.link.specs.Calls as calls
 use Rattle.link.specs.Claims.{Event, management_of, read_of, acknowledgement_of, acknowledged_of, written_of, happened_of}
+use Rattle.std.specs.Prelude.{Ok, Err}
+use Rattle.integers.specs.declared.answer.Refusal.{Refusal}
 
 -- ---- what ties the two
 
@@ -46,16 +46,16 @@ pub record WrittenAs (s : List ℕ) (r : Result) (fs : List Field) (rs : List Re
   pub reads : read_block (done_bytes r) ≡ block rs
 
 -- the bytes given read as an instruction, and "done" tells how many were taken
-pub record ReadAs (reads : List ℕ → InstructionRead) (s : List ℕ) (r : Result) (i : Instruction) : Type 0 where
+pub record ReadAs (reads : List ℕ → Read InstructionPlace) (s : List ℕ) (r : Result) (i : Instruction) : Type 0 where
   pub place : InstructionPlace
   pub taken : ℕ
-  pub found : reads s ≡ Found place taken
+  pub found : reads s ≡ Ok (place, taken)
   pub same : instruction_of s place ≡ i
   pub told : r.answer.number ≡ 0 → r.answer.first ≡ taken
 
 -- the reading refused the bytes
-abbrev pub Misread : (List ℕ → InstructionRead) → List ℕ → Result → Type 0
-Misread reads s r = (n : ℕ) × (reads s ≡ Refused n) × (r.answer.number ≡ n) × (r.answer.number ≡ 0 → ⊥)
+abbrev pub Misread : (List ℕ → Read InstructionPlace) → List ℕ → Result → Type 0
+Misread reads s r = (why : Refusal) × (reads s ≡ Err why) × (r.answer.number ≡ number_of why) × (r.answer.number ≡ 0 → ⊥)
 
 -- the bytes offered read as a block, and "done" wrote the model's output
 pub record OfferedAs (s : List ℕ) (r : Result) (rs : List Representation) (o : Output) : Type 0 where
@@ -63,7 +63,7 @@ pub record OfferedAs (s : List ℕ) (r : Result) (rs : List Representation) (o :
   pub written : r.answer.number ≡ 0 → done_bytes r ≡ output_bytes o
 
 abbrev pub Unreadable : List ℕ → Result → Type 0
-Unreadable s r = (n : ℕ) × (read_block s ≡ reading.BlockRead.refused n) × (r.answer.number ≡ 0 → ⊥)
+Unreadable s r = (why : Refusal) × (read_block s ≡ reading.BlockRead.refused why) × (r.answer.number ≡ 0 → ⊥)
 
 -- ---- where nothing happened in the model: what is known of the event
 abbrev pub IdleWrite : EncoderCall → Result → Type 0

@@ -12,8 +12,6 @@ use Rattle.instructions.specs.Instruction.{Instruction, insert, acknowledge, ins
 use Rattle.wire.specs.Name.{literal}
 use Rattle.instructions.specs.Reading.{read_for_decoder, read_for_encoder, instruction_of}
 use Rattle.instructions.specs.declared.read.InstructionPlace.{InstructionPlace}
-use Rattle.instructions.specs.declared.read.InstructionRead.{InstructionRead}
-use Rattle.instructions.specs.declared.read.InstructionRead.TheVariants.{Found, Refused}
 use Rattle.instructions.proofs.Equations.{decoder-empty, encoder-empty}
 use Rattle.instructions.proofs.Back.{decoder-front, encoder-front}
 use Rattle.instructions.proofs.Cut.{decoder-cut, encoder-cut}
@@ -23,6 +21,9 @@ use Rattle.model_laws.proofs.Tables.{nope}
 use Rattle.model_laws.proofs.Linking.{at-below}
 use Rattle.state_laws.proofs.Each.{Each}
 use Rattle.link.specs.Claims.{Managed, Acknowledges, Cut}
+use Rattle.std.specs.Prelude.{Ok, Err}
+use Rattle.integers.specs.Answers.{Read}
+use Rattle.integers.specs.declared.answer.Refusal.TheVariants.{Truncated}
 
 -- ---- instructions one after another
 unfoldable pub wires : List Instruction → List ℕ
@@ -114,24 +115,24 @@ beginnings (x ∷ xs) ys (z ∷ zs) ws e = go (beginnings xs ys zs ws (tail-eq_o
     go (inr h) = inr (h.0, h.1, ap₂ (λ (a : ℕ) (l : List ℕ). a ∷ l) d h.2)
 
 -- what an end's reader does with what the other end says
-pub record Reader (reads : List ℕ → InstructionRead) (Says : Instruction → Type 0) : Type 0 where
+pub record Reader (reads : List ℕ → Read InstructionPlace) (Says : Instruction → Type 0) : Type 0 where
   pub front : (i : Instruction) (rest : List ℕ) → Says i
-      → (p : InstructionPlace) × (reads (instruction_wire i ++ rest) ≡ Found p (length (instruction_wire i)))
+      → (p : InstructionPlace) × (reads (instruction_wire i ++ rest) ≡ Ok (p, length (instruction_wire i)))
       × (instruction_of (instruction_wire i ++ rest) p ≡ i)
-  pub cut : (i : Instruction) (xs : List ℕ) (y : ℕ) (ys : List ℕ) → Says i → instruction_wire i ≡ xs ++ (y ∷ ys) → reads xs ≡ Refused 2
-  pub empty : reads [] ≡ Refused 2
+  pub cut : (i : Instruction) (xs : List ℕ) (y : ℕ) (ys : List ℕ) → Says i → instruction_wire i ≡ xs ++ (y ∷ ys) → reads xs ≡ Err Truncated
+  pub empty : reads [] ≡ Err Truncated
   pub some-said : (i : Instruction) × Says i
 
 -- the whole next instruction is at the front, or the bytes end inside one
-pub record Whole (reads : List ℕ → InstructionRead) (is : List Instruction) (h : ℕ) (s : List ℕ) : Type 0 where
+pub record Whole (reads : List ℕ → Read InstructionPlace) (is : List Instruction) (h : ℕ) (s : List ℕ) : Type 0 where
   pub next : Instruction
   pub place : InstructionPlace
   pub there : at h is ≡ some next
-  pub found : reads s ≡ Found place (length (instruction_wire next))
+  pub found : reads s ≡ Ok (place, length (instruction_wire next))
   pub same : instruction_of s place ≡ next
 
-abbrev pub Ends : (List ℕ → InstructionRead) → (Instruction → Type 0) → List ℕ → Type 0
-Ends reads Says s = (reads s ≡ Refused 2) × Cut Says s
+abbrev pub Ends : (List ℕ → Read InstructionPlace) → (Instruction → Type 0) → List ℕ → Type 0
+Ends reads Says s = (reads s ≡ Err Truncated) × Cut Says s
 
 at_rest : (is : List Instruction) (h : ℕ) (i : Instruction) (js : List Instruction) → drop h is ≡ i ∷ js → at h is ≡ some i
 unfolding at
@@ -148,7 +149,7 @@ some_first (x ∷ l) h = (x, l, refl)
 empty-cut : (Says : Instruction → Type 0) (i : Instruction) → Says i → Cut Says []
 empty-cut Says i said = let f = some_first (instruction_wire i) (instruction-some i) in (i, said, f.0, f.1, f.2)
 
-pub beginning : (reads : List ℕ → InstructionRead) (Says : Instruction → Type 0) → Reader reads Says → (is : List Instruction) (h k : ℕ)
+pub beginning : (reads : List ℕ → Read InstructionPlace) (Says : Instruction → Type 0) → Reader reads Says → (is : List Instruction) (h k : ℕ)
     → Each Says is → Border is h k → (s rest : List ℕ) → drop k (wires is) ≡ s ++ rest → Whole reads is h s ⊎ Ends reads Says s
 unfolding wires
 beginning reads Says R is h k a b s rest e = go (drop h is) refl
@@ -190,8 +191,8 @@ for-encoder = record {
 }
   where
     front : (i : Instruction) (rest : List ℕ) → Acknowledges i
-        → (p : InstructionPlace) × (read_for_encoder (instruction_wire i ++ rest) ≡ Found p (length (instruction_wire i)))
+        → (p : InstructionPlace) × (read_for_encoder (instruction_wire i ++ rest) ≡ Ok (p, length (instruction_wire i)))
         × (instruction_of (instruction_wire i ++ rest) p ≡ i)
     front i rest (k, e, f) =
-        subst (λ (j : Instruction). (p : InstructionPlace) × (read_for_encoder (instruction_wire j ++ rest) ≡ Found p (length (instruction_wire j)))
+        subst (λ (j : Instruction). (p : InstructionPlace) × (read_for_encoder (instruction_wire j ++ rest) ≡ Ok (p, length (instruction_wire j)))
         × (instruction_of (instruction_wire j ++ rest) p ≡ j)) (sym e) (encoder-front k rest f)

@@ -8,7 +8,7 @@ use lib.ListN.{length, drop}
 use Rattle.memory.specs.Bytes.{overlay}
 use Rattle.memory.proofs.Order.{pick-both}
 use Rattle.memory.proofs.Overlay.{drop-overlay}
-use Rattle.integers.specs.Answers.{out_of_turn}
+use Rattle.integers.specs.Answers.{out_of_turn, number_of}
 use Rattle.fields.specs.Reading.{FieldListRead, read_field_list}
 use Rattle.fields.specs.Reading as lists
 use Rattle.blocks.specs.Reading.{BlockRead, read_block}
@@ -65,7 +65,7 @@ block-tells D stream part s out =
   where
     go : (r : BlockRead) → Tells (length out) (decoder_call D (read_block_call stream part (length out) r))
     go (blocks.BlockRead.block rs) = promises.decoded D stream part rs (length out)
-    go (blocks.BlockRead.refused number) = unread-decoder D number (length out)
+    go (blocks.BlockRead.refused why) = unread-decoder D (number_of why) (length out)
 
 pub decoder-writes : (D : Decoder) (c : DecoderCall) → Writes (decoder_lent c) (decoder_call D (decoder_call_of D c))
 unfolding decoder_call_of
@@ -96,5 +96,5 @@ encoder-writes E (calls.EncoderCall.block stream part s out) =
   where
     go : (r : FieldListRead) → Tells (length out) (encoder_call E (read_list_call stream part (length out) r))
     go (lists.FieldListRead.list fs) = promises.encoded E stream part fs (length out)
-    go (lists.FieldListRead.refused number) = unread-encoder E number (length out)
+    go (lists.FieldListRead.refused why) = unread-encoder E (number_of why) (length out)
 encoder-writes E (calls.EncoderCall.acknowledge s) = none-writes (encoder_call E (encoder_call_of E (calls.EncoderCall.acknowledge s)))

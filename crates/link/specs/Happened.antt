@@ -3,18 +3,19 @@
 use Rattle.std.specs.Prelude.{◌≡◌, ℕ, List, [], ◌∷◌, ◌++◌, eqb}
 use Rattle.memory.specs.Choice.{pick}
 use Rattle.wire.specs.Name.{literal}
-use Rattle.instructions.specs.Reading.{read_for_decoder, read_for_encoder, on_instruction, instruction_of}
+use Rattle.instructions.specs.Reading.{read_for_decoder, read_for_encoder, instruction_of}
 use Rattle.model.specs.Happened.{Happened, inserted, done_by}
 use Rattle.reply.specs.Result.{Result}
 use Rattle.link.specs.Calls.{DecoderCall, decoder_result, EncoderCall, encoder_result, done_bytes}
 use Rattle.link.specs.Calls as calls
+use Rattle.integers.specs.Answers.{on_read}
 
 -- ---- the management instruction, or the acknowledgement, at the front of these bytes
 abbrev pub managed : List ℕ → List Happened
-managed s = on_instruction (λ n. []) (read_for_decoder s) (λ p taken. done_by (instruction_of s p))
+managed s = on_read (λ why. []) (read_for_decoder s) (λ p taken. done_by (instruction_of s p))
 
 abbrev pub acknowledged : List ℕ → List Happened
-acknowledged s = on_instruction (λ n. []) (read_for_encoder s) (λ p taken. done_by (instruction_of s p))
+acknowledged s = on_read (λ why. []) (read_for_encoder s) (λ p taken. done_by (instruction_of s p))
 
 -- ---- the decoder: an instruction was read and answered "done", a collect wrote an acknowledgement
 unfoldable pub happened : DecoderCall → Result → List Happened

@@ -166,7 +166,7 @@ AllWrittenFor hs (f ∷ fs) (r ∷ rs) = WrittenFor hs f r × AllWrittenFor hs f
 -- ---- the streams that refer to an entry
 abbrev pub indexes_of : BlockRead → List ℕ
 indexes_of (block rs) = block_references rs
-indexes_of (reading.BlockRead.refused number) = []
+indexes_of (reading.BlockRead.refused why) = []
 
 -- the indexes that a block names, in byte order
 abbrev pub block_indexes : List ℕ → List ℕ

@@ -1,5 +1,5 @@
 -- What becomes of a call, and whether a refusal breaks the link (docs/RECORDINGS.md, "As the calls are made" and "Hours").
-use Rattle.std.specs.Prelude.{Bool, true, false, [], ◌∷◌, ℕ, eqb, ltb}
+use Rattle.std.specs.Prelude.{Bool, true, false, [], ◌∷◌, ℕ, eqb, ltb, Option, Some, None}
 use Rattle.memory.specs.Choice.{pick}
 use Rattle.integers.specs.Answers.{among}
 use Rattle.recording.specs.declared.Kind.{Kind}
@@ -9,7 +9,7 @@ use Rattle.link_events.specs.declared.events.Side.TheVariants.{Decoder, Encoder}
 use Rattle.link_events.specs.declared.events.Role.{Role}
 use Rattle.link_events.specs.declared.events.Role.TheVariants.{Start, Read, Other}
 use Rattle.link_events.specs.declared.events.Event.{Event}
-use Rattle.link_events.specs.declared.events.Event.TheVariants.{Quiet, Started, LeftOver, CutShort, Refused}
+use Rattle.link_events.specs.declared.events.Event.TheVariants.{Started, LeftOver, CutShort, Refused}
 
 -- the end whose call it is
 abbrev pub side_of : Kind → Side
@@ -42,10 +42,10 @@ role_of EncoderBlock = Other
 role_of EncoderAcknowledge = Read
 
 -- "a `decoder read` or `encoder acknowledge` that is done takes one instruction; where bytes follow it in the line": left over
-abbrev pub done_event : Role → ℕ → Event
-done_event Start left = Started
-done_event Read left = pick (ltb 0 left) (LeftOver left) Quiet
-done_event Other left = Quiet
+abbrev pub done_event : Role → ℕ → Option Event
+done_event Start left = Some Started
+done_event Read left = pick (ltb 0 left) (Some (LeftOver left)) None
+done_event Other left = None
 
 -- "A `decoder read` or `encoder acknowledge` answered 2": cut short. "Another call that is refused"
 abbrev pub refused_event : Role → ℕ → Event
@@ -53,8 +53,8 @@ refused_event Start answer = Refused
 refused_event Read answer = pick (eqb answer 2) CutShort Refused
 refused_event Other answer = Refused
 
-abbrev pub event_of : Role → ℕ → ℕ → Event
-event_of role answer left = pick (eqb answer 0) (done_event role left) (refused_event role answer)
+abbrev pub event_of : Role → ℕ → ℕ → Option Event
+event_of role answer left = pick (eqb answer 0) (done_event role left) (Some (refused_event role answer))
 
 -- "A refused start, a `decoder read` or `encoder acknowledge` refused with another number than 2 .. break the link at their end"
 abbrev pub refusal_breaks : Role → Bool

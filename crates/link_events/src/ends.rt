@@ -1,15 +1,14 @@
 // The tables of both ends, and the line at which one broke.
 ghost use Rattle.std.specs.Prelude.{◌≡◌};
-ghost use Rattle.link_events.specs.Ends.{fresh, one_more, started_anew, broken_at, after_event, after_call, after_bad_line, after_block, broken_line};
+ghost use Rattle.link_events.specs.Ends.{fresh, started_anew, broken_at, after_event, after_call, after_bad_line, after_block, broken_line};
 
 use crate::events::{Event, Role, Side, is_faulty, refusal_breaks};
 
-// The number of an end's table, 0 before its first start that is done, and the line at which the link broke first at this end since, 0 where
-// it did not.
+// The number of an end's table, 0 before its first start that is done, and the line at which the link broke first at this end since, if it did.
 #[derive(Clone, Copy)]
 pub struct End {
     pub table: u64,
-    pub broken: u64,
+    pub broken: Option<u64>,
 }
 
 #[derive(Clone, Copy)]
@@ -18,20 +17,13 @@ pub struct Ends {
     pub encoder: End,
 }
 
-// One more, up to the largest number.
-pub fn more(n: u64) -> u64
-    ensures { result ≡ one_more n }
-{
-    if n < u64::MAX { n + 1 } else { n }
-}
-
 impl End {
     pub fn new() -> End
         ensures { result ≡ fresh }
     {
         End {
             table: 0,
-            broken: 0,
+            broken: None,
         }
     }
 
@@ -40,33 +32,29 @@ impl End {
         ensures { result ≡ started_anew self }
     {
         End {
-            table: more(self.table),
-            broken: 0,
+            table: self.table.saturating_add(1),
+            broken: None,
         }
     }
 
-    // The link broke here, if it was whole.
+    // The link broke here, if it was whole. Lines are counted from 1: at line 0 nothing breaks.
     fn broken_at(self, line: u64) -> End
         ensures { result ≡ broken_at self line }
     {
-        if self.broken == 0 {
-            return End {
-                table: self.table,
-                broken: line,
-            };
+        End {
+            broken: self.broken.or((line != 0).then_some(line)),
+            ..self
         }
-        self
     }
 
-    fn after_event(self, role: Role, event: Event, line: u64) -> End
+    fn after_event(self, role: Role, event: Option<Event>, line: u64) -> End
         ensures { result ≡ after_event self role event line }
     {
         match event {
-            Event::Quiet => self,
-            Event::Started => self.started(),
-            Event::LeftOver(_) => self.broken_at(line),
-            Event::CutShort => self,
-            Event::Refused => {
+            None | Some(Event::CutShort) => self,
+            Some(Event::Started) => self.started(),
+            Some(Event::LeftOver(_)) => self.broken_at(line),
+            Some(Event::Refused) => {
                 if refusal_breaks(role) {
                     return self.broken_at(line);
                 }
@@ -84,20 +72,18 @@ impl Ends {
         }
     }
 
-    // Both ends after a call of one of them, at this line.
-    pub fn after_call(self, side: Side, role: Role, event: Event, line: u64) -> Ends
+    // Both ends after a call of one of them, at this line. The side chooses a field, and the step is the same: a closure would only hide it.
+    pub fn after_call(self, side: Side, role: Role, event: Option<Event>, line: u64) -> Ends
         ensures { result ≡ after_call self side role event line }
     {
-        let d = self.decoder;
-        let e = self.encoder;
         match side {
             Side::Decoder => Ends {
-                decoder: d.after_event(role, event, line),
-                encoder: e,
+                decoder: self.decoder.after_event(role, event, line),
+                ..self
             },
             Side::Encoder => Ends {
-                decoder: d,
-                encoder: e.after_event(role, event, line),
+                encoder: self.encoder.after_event(role, event, line),
+                ..self
             },
         }
     }
@@ -106,11 +92,9 @@ impl Ends {
     pub fn after_bad_line(self, line: u64) -> Ends
         ensures { result ≡ after_bad_line self line }
     {
-        let d = self.decoder;
-        let e = self.encoder;
         Ends {
-            decoder: d.broken_at(line),
-            encoder: e,
+            decoder: self.decoder.broken_at(line),
+            ..self
         }
     }
 
@@ -124,18 +108,13 @@ impl Ends {
         self.after_bad_line(line)
     }
 
-    // The line at which the link broke, 0 where it is whole.
-    pub fn broken_line(self) -> u64
+    // The line at which the link broke, if it did.
+    pub fn broken_line(self) -> Option<u64>
         ensures { result ≡ broken_line self.decoder.broken self.encoder.broken }
     {
-        let a = self.decoder.broken;
-        let b = self.encoder.broken;
-        if a == 0 {
-            return b;
+        match (self.decoder.broken, self.encoder.broken) {
+            (Some(a), Some(b)) => Some(a.min(b)),
+            (a, b) => a.or(b),
         }
-        if b == 0 {
-            return a;
-        }
-        if a < b { a } else { b }
     }
 }

@@ -2,7 +2,7 @@
 ghost use Rattle.std.specs.Prelude.{◌≡◌};
 ghost use Rattle.link_events.specs.Events.{side_of, role_of, done_event, refused_event, event_of, refusal_breaks, is_faulty};
 
-use integers::answer::{BAD_PACKING, DONE, NOT_ALLOWED, PADDED, TOO_LARGE, TOO_LONG, TRUNCATED};
+use integers::answer::{DONE, Refusal};
 use recording::Kind;
 
 // Which end a call is one of.
@@ -20,33 +20,32 @@ pub enum Role {
     Other,
 }
 
-// What became of a call: nothing that is told, a start that was done, bytes left over by a read, and how many, a read cut short, or a
-// refusal.
+// What became of a call, where it is told: a start that was done, bytes left over by a read, and how many, a read cut short, or a refusal.
 #[derive(Clone, Copy)]
 pub enum Event {
-    Quiet,
     Started,
     LeftOver(u64),
     CutShort,
     Refused,
 }
 
+// A value for each kind, here and in `role_of`: no step is chosen that a closure could be.
 pub fn side_of(kind: Kind) -> Side
     ensures { result ≡ side_of kind }
 {
     match kind {
-        Kind::DecoderStart => Side::Decoder,
-        Kind::DecoderRead => Side::Decoder,
-        Kind::DecoderBlock => Side::Decoder,
-        Kind::DecoderOver => Side::Decoder,
-        Kind::DecoderEnded => Side::Decoder,
-        Kind::DecoderCollect => Side::Decoder,
-        Kind::DecoderHold => Side::Decoder,
-        Kind::EncoderStart => Side::Encoder,
-        Kind::EncoderInsert => Side::Encoder,
-        Kind::EncoderDelete => Side::Encoder,
-        Kind::EncoderBlock => Side::Encoder,
-        Kind::EncoderAcknowledge => Side::Encoder,
+        Kind::DecoderStart
+        | Kind::DecoderRead
+        | Kind::DecoderBlock
+        | Kind::DecoderOver
+        | Kind::DecoderEnded
+        | Kind::DecoderCollect
+        | Kind::DecoderHold => Side::Decoder,
+        Kind::EncoderStart
+        | Kind::EncoderInsert
+        | Kind::EncoderDelete
+        | Kind::EncoderBlock
+        | Kind::EncoderAcknowledge => Side::Encoder,
     }
 }
 
@@ -54,59 +53,47 @@ pub fn role_of(kind: Kind) -> Role
     ensures { result ≡ role_of kind }
 {
     match kind {
-        Kind::DecoderStart => Role::Start,
-        Kind::DecoderRead => Role::Read,
-        Kind::DecoderBlock => Role::Other,
-        Kind::DecoderOver => Role::Other,
-        Kind::DecoderEnded => Role::Other,
-        Kind::DecoderCollect => Role::Other,
-        Kind::DecoderHold => Role::Other,
-        Kind::EncoderStart => Role::Start,
-        Kind::EncoderInsert => Role::Other,
-        Kind::EncoderDelete => Role::Other,
-        Kind::EncoderBlock => Role::Other,
-        Kind::EncoderAcknowledge => Role::Read,
+        Kind::DecoderStart | Kind::EncoderStart => Role::Start,
+        Kind::DecoderRead | Kind::EncoderAcknowledge => Role::Read,
+        Kind::DecoderBlock
+        | Kind::DecoderOver
+        | Kind::DecoderEnded
+        | Kind::DecoderCollect
+        | Kind::DecoderHold
+        | Kind::EncoderInsert
+        | Kind::EncoderDelete
+        | Kind::EncoderBlock => Role::Other,
     }
 }
 
-fn done_event(role: Role, left: u64) -> Event
+fn done_event(role: Role, left: u64) -> Option<Event>
     ensures { result ≡ done_event role left }
 {
     match role {
-        Role::Start => Event::Started,
-        Role::Read => {
-            if 0 < left {
-                return Event::LeftOver(left);
-            }
-            Event::Quiet
-        }
-        Role::Other => Event::Quiet,
+        Role::Start => Some(Event::Started),
+        Role::Read => (0 < left).then_some(Event::LeftOver(left)),
+        Role::Other => None,
     }
 }
 
+// `answer` is any number, as `event_of` promises of each, and so no `Refusal`: 4 and 15 are the number of none.
 fn refused_event(role: Role, answer: u8) -> Event
     ensures { result ≡ refused_event role answer }
 {
     match role {
-        Role::Start => Event::Refused,
-        Role::Read => {
-            if answer == TRUNCATED {
-                return Event::CutShort;
-            }
-            Event::Refused
-        }
-        Role::Other => Event::Refused,
+        Role::Read if answer == Refusal::Truncated.number() => Event::CutShort,
+        Role::Start | Role::Read | Role::Other => Event::Refused,
     }
 }
 
 // What became of a call with this answer that left so many of its bytes over.
-pub fn event_of(role: Role, answer: u8, left: u64) -> Event
+pub fn event_of(role: Role, answer: u8, left: u64) -> Option<Event>
     ensures { result ≡ event_of role answer left }
 {
     if answer == DONE {
         return done_event(role, left);
     }
-    refused_event(role, answer)
+    Some(refused_event(role, answer))
 }
 
 // Does a refusal of such a call break the link?
@@ -120,14 +107,18 @@ pub fn refusal_breaks(role: Role) -> bool
     }
 }
 
-// Is a block that was answered with this number faulty? Its bytes are none that an encoder writes.
+// Is a block that was answered with this number faulty? Its bytes are none that an encoder writes. The contract speaks of every number, those of no
+// `Refusal` too.
 pub fn is_faulty(answer: u8) -> bool
     ensures { result ≡ is_faulty answer }
 {
-    (answer == TRUNCATED)
-        | (answer == TOO_LARGE)
-        | (answer == NOT_ALLOWED)
-        | (answer == TOO_LONG)
-        | (answer == BAD_PACKING)
-        | (answer == PADDED)
+    [
+        Refusal::Truncated.number(),
+        Refusal::TooLarge.number(),
+        Refusal::NotAllowed.number(),
+        Refusal::TooLong.number(),
+        Refusal::BadPacking.number(),
+        Refusal::Padded.number(),
+    ]
+    .contains(&answer)
 }

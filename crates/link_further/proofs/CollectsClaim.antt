@@ -11,10 +11,8 @@ use lib.Seq.{take-take}
 use lib.Dec.{eqb}
 use Rattle.memory.specs.Choice.{pick}
 use Rattle.memory.specs.Bytes.{Small}
-use Rattle.integers.specs.Answers.{Answer, out_of_turn}
-use Rattle.instructions.specs.Reading.{read_for_decoder, on_instruction, instruction_of}
-use Rattle.instructions.specs.declared.read.InstructionRead.{InstructionRead}
-use Rattle.instructions.specs.declared.read.InstructionRead.TheVariants.{Found, Refused}
+use Rattle.integers.specs.Answers.{Answer, out_of_turn, on_read, Read}
+use Rattle.instructions.specs.Reading.{read_for_decoder, instruction_of}
 use Rattle.instructions.specs.Instruction.{acknowledge, instruction_wire}
 use Rattle.blocks.specs.Reading.{BlockRead, read_block}
 use Rattle.blocks.specs.Reading as blocks
@@ -35,26 +33,28 @@ use Rattle.link.specs.Calls as calls
 use Rattle.link.specs.Happened.{Ready}
 use Rattle.link_further.specs.Collects.{collected, enough, CollectsClaim}
 use Rattle.link_further.specs.Collects as claim
-use Rattle.link.proofs.Lifted.{StandsDecoder, LiftedDecoder, read_block_call, decoder_call_of}
+use Rattle.link.proofs.Lifted.{StandsDecoder, LiftedDecoder, read_block_call, decoder_call_of, decoder_unread}
 use Rattle.link.proofs.DecoderLifting.{lift-decoder, stands-self-decoder}
 use Rattle.link.proofs.Runs.{decoder_calls_of, fine-decoders}
 use Rattle.link.proofs.DoneBytes.{done-bytes}
 use Rattle.link.proofs.DecoderHistory.{forms-decoder, enquiry-ready}
+use Rattle.std.specs.Prelude.{Ok, Err}
+use Rattle.instructions.specs.declared.read.InstructionPlace.{InstructionPlace}
 
 -- ---- a read and a block are no collect
-read-silent : (D : Decoder) (s : List ℕ) (q : InstructionRead)
-    → [] ≡ collected_by (on_instruction at-decoder.unread q (λ p taken. at-decoder.read (instruction_of s p) taken))
-    (decoder_call D (on_instruction at-decoder.unread q (λ p taken. at-decoder.read (instruction_of s p) taken)))
+read-silent : (D : Decoder) (s : List ℕ) (q : Read InstructionPlace)
+    → [] ≡ collected_by (on_read decoder_unread q (λ p taken. at-decoder.read (instruction_of s p) taken))
+    (decoder_call D (on_read decoder_unread q (λ p taken. at-decoder.read (instruction_of s p) taken)))
 unfolding collected_by
-read-silent D s (Found p taken) = refl
-read-silent D s (Refused number) = refl
+read-silent D s (Ok (p, taken)) = refl
+read-silent D s (Err why) = refl
 
 block-silent : (D : Decoder) (turn : Bool) (stream part room : ℕ) (q : BlockRead)
     → [] ≡ collected_by (pick turn (read_block_call stream part room q) (at-decoder.unread out_of_turn))
     (decoder_call D (pick turn (read_block_call stream part room q) (at-decoder.unread out_of_turn)))
 unfolding collected_by
 block-silent D true stream part room (blocks.BlockRead.block rs) = refl
-block-silent D true stream part room (blocks.BlockRead.refused number) = refl
+block-silent D true stream part room (blocks.BlockRead.refused why) = refl
 block-silent D false stream part room q = refl
 
 -- ---- what a call wrote as a collect, and a list of calls

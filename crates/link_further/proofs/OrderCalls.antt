@@ -136,7 +136,7 @@ module _ (D : Decoder) (f g : Marks) where
         ≡ told (decoder_call G (pick turn (read_block_call s part room r) (at-decoder.unread out_of_turn)))
     unfolding decoder_call decode_block
     reads part true (blocks.BlockRead.block rs) = decodes (part_of part) rs
-    reads part true (blocks.BlockRead.refused number) = refl
+    reads part true (blocks.BlockRead.refused why) = refl
     reads part false r = refl
 
   pub same-told : (c : DecoderCall) → SameFor c f g → told (outcome F c) ≡ told (outcome G c)
@@ -160,7 +160,7 @@ module _ (D : Decoder) where
   unfolding decoder_call
   block-marks s part room true (blocks.BlockRead.block rs) =
       ways.block-ways (OnlyMarks D) D (λ a z. refl) s part rs room (λ p fs e low turn m fits. refl)
-  block-marks s part room true (blocks.BlockRead.refused number) = refl
+  block-marks s part room true (blocks.BlockRead.refused why) = refl
   block-marks s part room false q = refl
 
   only-marks : (c : DecoderCall) → Marking c → OnlyMarks D (outcome D c)

@@ -1,4 +1,3 @@
--- Laws of the notes and sums of a link.
-pub mod Clearing
-pub mod Places
-pub mod Summing
+-- Laws of the notes of a link.
+pub mod Mapping
+pub mod Pushing

@@ -3,3 +3,5 @@
 
 pub mod notes;
 pub mod sums;
+mod waiting;
+mod written;

@@ -2,39 +2,37 @@
 ghost use Rattle.std.specs.Prelude.{◌≡◌};
 ghost use Rattle.link_state.specs.Doubts.{doubt_of};
 
-use crate::written::{as_written, is_written};
+use crate::written::as_written;
 use link_events::ends::Ends;
-use link_notes::notes::NOTES;
-use link_notes::sums::block_sum;
+use link_notes::notes::Notes;
+use link_notes::sums::Block;
 
 // Why the hours of a message cannot be told before its fields are looked at: the link is broken, at this line, or the block is not as it was
 // written for this table.
-#[derive(Drop)]
+#[derive(Clone, Copy)]
 pub enum Doubt {
-    Nothing,
     Broken(u64),
     NotAsWritten(u64),
 }
 
+#[tactic(auto, unfolding(crate::specs::Doubts::doubt_of))]
 pub fn doubt_of(
     ends: Ends,
-    notes: &[u64; NOTES],
+    notes: &Notes,
     stream: u64,
     part: u64,
     block: &[u8],
     given: &[u8],
-) -> Doubt
-    ensures { result ≡ doubt_of ends notes.now stream part block.now given.now }
+) -> Option<Doubt>
+    ensures { result ≡ doubt_of ends notes.now.parts stream part block.now given.now }
 {
-    let line = ends.broken_line();
-    if line != 0 {
-        return Doubt::Broken(line);
+    if let Some(line) = ends.broken_line() {
+        return Some(Doubt::Broken(line));
     }
     let table = ends.decoder.table;
-    let bytes = block_sum(block, b"");
-    let found = is_written(notes, table, stream, part, bytes, block_sum(block, given));
+    let found = notes.is_written(table, stream, part, Block::of(block, given));
     if as_written(table, ends.encoder.table, found) {
-        return Doubt::Nothing;
+        return None;
     }
-    Doubt::NotAsWritten(table)
+    Some(Doubt::NotAsWritten(table))
 }

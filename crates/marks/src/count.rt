@@ -11,11 +11,10 @@ pub fn count_below(m: &[u8], at: usize, end: usize) -> usize
     ensures { result ≡ count_from (is_set m.now at) 0 end }
 {
     let mut count: usize = 0;
-    let mut s: usize = 0;
-    while WORD <= end - s {
-        count += u64::count_ones(u64_at(m, at + s / BYTE)) as usize;
-        s += WORD;
+    for w in 0..end / WORD {
+        count += u64::count_ones(u64_at(m, at + WORD * w / BYTE)) as usize;
     }
+    let s = end / WORD * WORD;
     if s < end {
         let word = u64_at(m, at + s / BYTE) % power((end - s) as u32);
         count += u64::count_ones(word) as usize;
@@ -28,8 +27,8 @@ pub fn lowest_below(m: &[u8], at: usize, end: usize) -> usize
     requires { (end ≤ 4096) × (at + 512 ≤ length m.now) }
     ensures { result ≡ lowest_from (is_set m.now at) 0 end }
 {
-    let mut s: usize = 0;
-    while s < end {
+    for w in 0..(end + WORD - 1) / WORD {
+        let s = WORD * w;
         let word = u64_at(m, at + s / BYTE);
         if word != 0 {
             let lowest = s + (u64::trailing_zeros(word) as usize);
@@ -38,7 +37,6 @@ pub fn lowest_below(m: &[u8], at: usize, end: usize) -> usize
             }
             return end;
         }
-        s += WORD;
     }
     end
 }

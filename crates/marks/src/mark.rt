@@ -55,9 +55,7 @@ pub fn set_all(m: &mut [u8], at: usize)
     requires { at + 512 ≤ length m.old }
     ensures { m.new ≡ overlay m.old at (words_bytes (λ s. true) 0 64) }
 {
-    let mut w: usize = 0;
-    while w < WORDS {
+    for w in 0..WORDS {
         put_u64(m, at + WORD_BYTES * w, ALL);
-        w += 1;
     }
 }

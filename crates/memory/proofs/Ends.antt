@@ -1,5 +1,5 @@
 -- Bytes compared by a word at their start and a word at their end, which may overlap. By the law of splitting a comparison.
-use mathlib.Core.Path.{◌≡◌, refl, sym, ap, ◌∙◌}
+use mathlib.Core.Path.{◌≡◌, refl, sym, ap, ap₂, ◌∙◌}
 use Prim.Native.Nat.{ℕ, ◌+◌, ◌-◌, ◌≤◌}
 use native.Mathlib.Nat.{zero-add}
 use native.Mathlib.Omega.{arith}
@@ -29,6 +29,28 @@ module _ (n w : ℕ) (a : List ℕ) (i : ℕ) (b : List ℕ) (h : w ≤ n) where
   by_last =
       let e : n ≡ n - w + w = omega arith in
       ap (λ (k : ℕ). same_at k a i b 0) e ∙ (rw (zero-add (n - w)) at (same_at-split (n - w) w a i b 0))
+
+  -- the first w bytes and the last decide
+  pub ends : n ≤ w + w → same_at n a i b 0 ≡ pick (same_at w a i b 0) (same_at w a (i + (n - w)) b (n - w)) false
+  ends k =
+      let m : ℕ = n - w in
+      let d : w ≡ m + (w - m) = omega arith in
+      let e : w ≡ w - m + m = omega arith in
+      let first : same_at w a i b 0 ≡ pick (same_at m a i b 0) (same_at (w - m) a (i + m) b (0 + m)) false =
+      ap (λ (j : ℕ). same_at j a i b 0) d ∙ same_at-split m (w - m) a i b 0
+      in
+      let last : same_at w a (i + m) b m ≡ pick (same_at (w - m) a (i + m) b m) (same_at m a (i + m + (w - m)) b (m + (w - m))) false =
+      ap (λ (j : ℕ). same_at j a (i + m) b m) e ∙ same_at-split (w - m) m a (i + m) b m
+      in
+      by_last
+      ∙ ap (λ (t : Bool). pick (same_at m a i b 0) t false) last
+      ∙ both (same_at m a i b 0) (same_at (w - m) a (i + m) b m) (same_at m a (i + m + (w - m)) b (m + (w - m)))
+      ∙ sym (ap₂ (λ (p q : Bool). pick p q false) (rw (zero-add m) at first) last)
+    where
+      both : (p q r : Bool) → pick p (pick q r false) false ≡ pick (pick p q false) (pick q r false) false
+      both true true r = refl
+      both true false r = refl
+      both false q r = refl
 
   pub ends-first : (number w a i ≡ number w b 0 → ⊥) → same_at n a i b 0 ≡ false
   ends-first f =

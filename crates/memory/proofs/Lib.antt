@@ -8,4 +8,3 @@ pub mod Numbers
 pub mod Sameness
 pub mod Ends
 pub mod Zeros
-pub mod ZeroStores

@@ -3,9 +3,10 @@ use mathlib.Core.Path.{◌≡◌, refl, sym, ap, ap₂, ◌∙◌}
 use Prim.Native.Nat.{ℕ, zero, suc, ◌+◌, ◌*◌, ◌/◌, ◌%◌, ◌^◌, ◌≤◌, ◌<◌}
 use native.Mathlib.Omega.{arith}
 use native.Mathlib.Nat.{add-zero, zero-add, suc-add, pow-zero, pow-succ', pow-suc, div-div-eq-div-mul, div-one, one-le-pow}
-use mathlib.Core.List.{List, ◌∷◌, ◌++◌}
+use mathlib.Core.List.{List, [], ◌∷◌, ◌++◌}
 use lib.Arith.{mod-mul}
 use lib.ListN.{length, get_or, get_or-append}
+use Rattle.std.specs.Int.{w16, w32, w64, to_le_bytes}
 use Rattle.memory.specs.Bytes.{part, overlay, Has, Small}
 use Rattle.memory.specs.Numbers.{number, number_bytes}
 use Rattle.memory.proofs.Overlay.{overlay-before, overlay-after, overlay-append, small-cons}
@@ -126,3 +127,21 @@ module _ (n : ℕ) (a : List ℕ) (i : ℕ) (b : List ℕ) (j : ℕ) (ha : i + n
 
   pub eq_number : part a i n ≡ part b j n → number n a i ≡ number n b j
   eq_number e = number_same n a i b j (λ k h. sym (get_d_part a i n k h) ∙ ap (λ (l : List ℕ). get_or l k 0) e ∙ get_d_part b j n k h)
+
+-- ---- the library's writing of a number's bytes
+
+pub le_bytes-number_1 : (v : ℕ) → v < 256 → v ∷ [] ≡ number_bytes 1 v
+unfolding number_bytes
+le_bytes-number_1 v h = ap (λ (x : ℕ). x ∷ []) (omega arith)
+
+pub le_bytes-number_2 : (v : ℕ) → to_le_bytes w16 v ≡ number_bytes 2 v
+unfolding number_bytes
+le_bytes-number_2 v = refl
+
+pub le_bytes-number_4 : (v : ℕ) → to_le_bytes w32 v ≡ number_bytes 4 v
+unfolding number_bytes
+le_bytes-number_4 v = simp div-div-eq-div-mul
+
+pub le_bytes-number_8 : (v : ℕ) → to_le_bytes w64 v ≡ number_bytes 8 v
+unfolding number_bytes
+le_bytes-number_8 v = simp div-div-eq-div-mul

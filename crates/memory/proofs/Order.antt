@@ -3,7 +3,7 @@ use mathlib.Core.Path.{◌≡◌, refl, ap}
 use Prim.Native.Nat.{ℕ, ◌≤◌, ◌<◌}
 use native.Mathlib.Omega.{arith}
 use native.Mathlib.Decide.{dec_lt}
-use mathlib.Core.Bool.{Bool, true, false}
+use mathlib.Core.Bool.{Bool, true, false, ◌&&◌}
 use Rattle.memory.specs.Choice.{pick, need}
 
 -- one order or the other
@@ -25,6 +25,11 @@ pick_true b x y e = ap (λ (t : Bool). pick t x y) e
 
 pub pick-false {ℓ} : {X : Type ℓ} (b : Bool) (x y : X) → b ≡ false → pick b x y ≡ y
 pick-false b x y e = ap (λ (t : Bool). pick t x y) e
+
+-- the library's `&&`
+pub and-pick : (p q : Bool) → (p && q) ≡ pick p q false
+and-pick true q = refl
+and-pick false q = refl
 
 -- the same of what must hold to go on
 pub need-both {ℓ κ} : {X : Type ℓ} (P : X → Type κ) (b : Bool) (x y : X) → (b ≡ false → P x) → (b ≡ true → P y) → P (need b x y)

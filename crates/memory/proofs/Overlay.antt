@@ -1,12 +1,14 @@
 -- Runs of stores: what they change and what they keep. By induction over the stored elements; two overlays by their elements.
 use mathlib.Core.Path.{◌≡◌, refl, sym, ap, ◌∙◌}
-use Prim.Native.Nat.{ℕ, zero, suc, ◌+◌, ◌≤◌, ◌<◌}
+use Prim.Native.Nat.{ℕ, zero, suc, ◌+◌, ◌-◌, ◌≤◌, ◌<◌}
 use native.Mathlib.Omega.{arith}
 use native.Mathlib.Nat.{add-zero}
 use native.Mathlib.Numerals.{add-one}
 use mathlib.Core.List.{List, [], ◌∷◌, ◌++◌, append-nil}
+use Rattle.std.proofs.Common.{append_assoc}
 use lib.ListN.{length, get_or, take, drop, set, length-set, drop_of_length-le}
-use lib.Seq.{get_or-set_other, set-get_or, set-set, set_comm, take-set-le, drop-set-lt, set-append_left, get_or-drop, sets, sets-eq}
+use lib.Seq.{get_or-set_other, set-get_or, set-set, set_comm, take-set-le, drop-set-lt, set-append_left, get_or-drop, drop-drop, sets, sets-eq}
+use borrow.Rule.Slice.PartMut.{put_mid}
 use Rattle.memory.specs.Bytes.{part, overlay, Has, Small}
 
 pub length-overlay : (l : List ℕ) (i : ℕ) (vs : List ℕ) → length (overlay l i vs) ≡ length l
@@ -81,6 +83,15 @@ overlay-sets l i (v ∷ vs) = overlay-sets (set l i v) (i + 1) vs ∙ ap (λ (k 
 pub overlay-split : (l : List ℕ) (i : ℕ) (vs : List ℕ) → i + length vs ≤ length l
     → overlay l i vs ≡ take i l ++ vs ++ drop (i + length vs) l
 overlay-split l i vs h = overlay-sets l i vs ∙ sets-eq vs l i h
+
+-- a part of a lent slice written as a whole
+pub mid-overlay : (l vs : List ℕ) (i n : ℕ) → i + n ≤ length l → length vs ≡ n → put_mid i (i + n - i) l vs ≡ overlay l i vs
+mid-overlay l vs i n h e =
+    let d : i + n - i ≡ length vs = omega arith in
+    ap (λ (k : ℕ). take i l ++ (vs ++ drop k (drop i l))) d
+    ∙ ap (λ (r : List ℕ). take i l ++ (vs ++ r)) (drop-drop (length vs) i l)
+    ∙ sym (append_assoc (take i l) vs (drop (i + length vs) l))
+    ∙ sym (overlay-split l i vs (omega arith))
 
 -- an overlay of the whole list
 pub overlay-all : (l vs : List ℕ) → length vs ≡ length l → overlay l 0 vs ≡ vs

@@ -8,12 +8,13 @@ use mathlib.Core.Bool.{Bool, true, false}
 use mathlib.Core.List.{List, [], ◌∷◌}
 use lib.ListN.{length, get_or}
 use lib.Dec.{eqb}
+use lib.Pointwise.{pointwise}
 use borrow.Author.Tests.{eqb-true, eq-eqb, ne_eqb}
 use Rattle.memory.specs.Choice.{pick}
 use Rattle.memory.specs.Bytes.{part, Small}
 use Rattle.memory.specs.Numbers.{number}
 use Rattle.memory.specs.Compare.{same_at, same}
-use Rattle.memory.proofs.Order.{either, pick_true, pick-false, not-both}
+use Rattle.memory.proofs.Order.{either, pick_true, pick-false, and-pick, not-both}
 use Rattle.memory.proofs.Places.{part-cons}
 
 -- ---- two lists
@@ -46,6 +47,14 @@ differ_same xs ys f = either (same xs ys) (λ t. absurd (f (same-eq xs ys t))) (
 pub length-same : (xs ys : List ℕ) → (length xs ≡ length ys → ⊥) → same xs ys ≡ false
 length-same xs ys f = differ_same xs ys (λ e. f (ap length e))
 
+-- the library's test
+pointwise-same : (xs ys : List ℕ) → pointwise eqb xs ys ≡ same xs ys
+unfolding same
+pointwise-same [] [] = refl
+pointwise-same [] (y ∷ ys) = refl
+pointwise-same (x ∷ xs) [] = refl
+pointwise-same (x ∷ xs) (y ∷ ys) = and-pick (eqb x y) (pointwise eqb xs ys) ∙ ap (λ (t : Bool). pick (eqb x y) t false) (pointwise-same xs ys)
+
 -- ---- two parts
 
 pub same_at-same : (n : ℕ) (a : List ℕ) (i : ℕ) (b : List ℕ) (j : ℕ) → i + n ≤ length a → j + n ≤ length b
@@ -57,6 +66,10 @@ same_at-same (suc n) a i b j h k =
     (ap (λ (t : Bool). pick (eqb (get_or a i 0) (get_or b j 0)) t false) (same_at-same n a (i + 1) b (j + 1) (omega arith) (omega arith)))
 
 module _ (n : ℕ) (a : List ℕ) (i : ℕ) (b : List ℕ) (j : ℕ) (ha : i + n ≤ length a) (hb : j + n ≤ length b) where
+  -- by the library's test of two lists that are the parts
+  pub pointwise-parts : (xs ys : List ℕ) → xs ≡ part a i n → ys ≡ part b j n → pointwise eqb xs ys ≡ same_at n a i b j
+  pointwise-parts xs ys d e = ap₂ (pointwise eqb) d e ∙ pointwise-same (part a i n) (part b j n) ∙ sym (same_at-same n a i b j ha hb)
+
   pub same_at-eq : same_at n a i b j ≡ true → part a i n ≡ part b j n
   same_at-eq e = same-eq (part a i n) (part b j n) (sym (same_at-same n a i b j ha hb) ∙ e)
 

@@ -2,15 +2,14 @@
 ghost use Rattle.std.specs.Prelude.{◌≡◌, ℕ, ◌+◌, ◌≤◌, ◌<◌, length, replicate};
 ghost use Rattle.memory.specs.Bytes.{overlay, moved};
 
-// Moves the `n` bytes at `from` down to `to`. The parts may overlap: the first byte goes first.
+// Moves the `n` bytes at `from` down to `to`. The parts may overlap: the first byte goes first. The way is known here, so the compiler may make a memmove
+// of the loop: `copy_within` tests the way at each call.
 pub fn move_down(m: &mut [u8], to: usize, from: usize, n: usize)
     requires { (to ≤ from) × (from + n ≤ length m.old) }
     ensures { m.new ≡ moved m.old to from n }
 {
-    let mut i: usize = 0;
-    while i < n {
+    for i in 0..n {
         m[to + i] = m[from + i];
-        i += 1;
     }
 }
 
@@ -19,9 +18,7 @@ pub fn move_up(m: &mut [u8], to: usize, from: usize, n: usize)
     requires { (from ≤ to) × (to + n ≤ length m.old) }
     ensures { m.new ≡ moved m.old to from n }
 {
-    let mut i: usize = n;
-    while 0 < i {
-        i -= 1;
+    for i in (0..n).rev() {
         m[to + i] = m[from + i];
     }
 }
@@ -31,9 +28,5 @@ pub fn put_zeros(m: &mut [u8], at: usize, n: usize)
     requires { at + n ≤ length m.old }
     ensures { m.new ≡ overlay m.old at (replicate n 0) }
 {
-    let mut i: usize = 0;
-    while i < n {
-        m[at + i] = 0;
-        i += 1;
-    }
+    m[at..at + n].fill(0);
 }

@@ -1,6 +1,7 @@
-// Numbers of two, four and eight bytes, the lowest byte first. The compiler makes one load or store of each.
+// Numbers of two, four and eight bytes, the lowest byte first, and bytes at a place, as many as a type says. The compiler makes one load or store of each. The numbers are sums, not
+// std's `from_le_bytes`: with that the compiler makes a call of memcpy of the loop in `copying`, and the library calls memmove and memset alone (docs/HOST.md).
 ghost use Rattle.std.specs.Prelude.{◌≡◌, ℕ, ◌+◌, ◌≤◌, ◌<◌, length};
-ghost use Rattle.memory.specs.Bytes.{overlay};
+ghost use Rattle.memory.specs.Bytes.{part, overlay};
 ghost use Rattle.memory.specs.Numbers.{number, number_bytes};
 
 fn wide(x: u8) -> u16
@@ -52,4 +53,22 @@ pub fn put_u64(m: &mut [u8], at: usize, v: u64)
 {
     put_u32(m, at, (v % 4_294_967_296) as u32);
     put_u32(m, at + 4, (v / 4_294_967_296) as u32);
+}
+
+// The `N` bytes from the place `at` on.
+pub fn bytes_at<const N: usize>(s: &[u8], at: usize) -> [u8; N]
+    requires { at + N ≤ length s.now }
+    ensures { result ≡ part s.now at N }
+{
+    let mut bytes = [0; N];
+    bytes.copy_from_slice(&s[at..at + N]);
+    bytes
+}
+
+// Stores `bytes` from the place `at` on.
+pub fn put_bytes<const N: usize>(m: &mut [u8], at: usize, bytes: [u8; N])
+    requires { at + N ≤ length m.old }
+    ensures { m.new ≡ overlay m.old at bytes.entry }
+{
+    m[at..at + N].copy_from_slice(&bytes);
 }

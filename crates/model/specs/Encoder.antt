@@ -9,8 +9,6 @@ use Rattle.wire.specs.Name.{Name, indexed as by_index, literal as by_bytes}
 use Rattle.stream_lists.specs.StreamList.{StreamList}
 use Rattle.statics.specs.Table.{Entry}
 use Rattle.static_search.specs.Search.{find_name, find_both}
-use Rattle.static_search.specs.declared.search.StaticFound.{StaticFound}
-use Rattle.static_search.specs.declared.search.StaticFound.TheVariants.{At, Nothing}
 use Rattle.fields.specs.Form.{Field}
 use Rattle.instructions.specs.Instruction.{Instruction, insert, delete, instruction_wire}
 use Rattle.blocks.specs.Representation.{Representation, indexed, literal, block_wire}
@@ -18,6 +16,9 @@ use Rattle.blocks.specs.Meaning.{block_references}
 use Rattle.model.specs.Table.{size, Account, Ascending, look, put, cut, first, vacant_from, total}
 use Rattle.model.specs.Parts.{Part, nontrailer, trailer, part_of, Marks, no_marks, block_marks, in_turn, streams}
 use Rattle.model.specs.Outcome.{nothing, instruction, block, Outcome, refuse, finish}
+use Rattle.std.specs.Prelude.{Some, None}
+use Rattle.integers.specs.declared.number.TableIndex.{TableIndex}
+use Rattle.std.specs.Prelude as prelude
 
 -- an entry: for each kind of block the horizon that its delete would be written with, and whether it is under deletion
 pub record Sent : Type 0 where
@@ -75,9 +76,9 @@ unfoldable pub dynamic_name : List ℕ → Option Sent → Name
 dynamic_name name none = by_bytes name
 dynamic_name name (some e) = by_index e.index
 
-unfoldable pub static_name : List Sent → List ℕ → StaticFound → Name
-static_name l name (At j) = by_index j.value
-static_name l name Nothing = dynamic_name name (first (serves name) l)
+unfoldable pub static_name : List Sent → List ℕ → prelude.Option TableIndex → Name
+static_name l name (Some j) = by_index j.value
+static_name l name None = dynamic_name name (first (serves name) l)
 
 -- "A literal, and an insert, names by the lowest static index with that name, else the lowest dynamic one not under deletion, else by string."
 unfoldable pub choose_name : List Sent → List ℕ → Name
@@ -87,9 +88,9 @@ unfoldable pub dynamic_field : List Sent → Field → Option Sent → Represent
 dynamic_field l f none = literal 0 (choose_name l f.name) f.value
 dynamic_field l f (some e) = indexed e.index
 
-unfoldable pub static_field : List Sent → Field → StaticFound → Representation
-static_field l f (At j) = indexed j.value
-static_field l f Nothing = dynamic_field l f (first (serves_both f.name f.value) l)
+unfoldable pub static_field : List Sent → Field → prelude.Option TableIndex → Representation
+static_field l f (Some j) = indexed j.value
+static_field l f None = dynamic_field l f (first (serves_both f.name f.value) l)
 
 -- "A field with flag 1 is a literal with N. Otherwise use the lowest static index with equal name and value, else the lowest such dynamic
 -- index not under deletion, else a literal."

@@ -15,8 +15,6 @@ use Rattle.memory.proofs.Sameness.{same-eq}
 use Rattle.wire.specs.Name.{Name, indexed as indexed_name, literal as by_bytes}
 use Rattle.statics.specs.Table.{Entry, entry_at}
 use Rattle.static_search.specs.Search.{find_name, find_both}
-use Rattle.static_search.specs.declared.search.StaticFound.{StaticFound}
-use Rattle.static_search.specs.declared.search.StaticFound.TheVariants.{At, Nothing}
 use Rattle.static_search.proofs.Finding.{name-found, both_found}
 use Rattle.fields.specs.Form.{Field, AllFine}
 use Rattle.blocks.specs.Representation.{Representation, indexed, literal}
@@ -29,6 +27,9 @@ use Rattle.model_laws.proofs.Slots.Machine.{Item, given, by_index, by_name, entr
 use Rattle.model_laws.proofs.Slots.Invariant.{MeantItem, meant_given, meant_index, meant_name, as_items, fields_of, EachReference}
 use Rattle.model_laws.proofs.View.{slot_item, slot_items}
 use Rattle.model_laws.proofs.Marks.{and_both}
+use Rattle.std.specs.Prelude.{Some, None}
+use Rattle.integers.specs.declared.number.TableIndex.{TableIndex}
+use Rattle.std.specs.Prelude as prelude
 
 -- ---- a block with the entries that its indexes mean
 
@@ -114,9 +115,9 @@ module _ (l : List Sent) (a : Ascending sent_index 62 l) where
           let r = serves-is name e s.1 in
           by-entry e s.0 r.0 r.1 refl
 
-      go : (o : StaticFound) → find_name name ≡ o → Chosen name (static_name l name o)
-      go (At j) h = let w = name-found name 61 1 j h in by-static j.value (static-within j.value w.low (omega (arith, w.high))) w.holds refl
-      go Nothing h = dynamic (first (serves name) l) refl
+      go : (o : prelude.Option TableIndex) → find_name name ≡ o → Chosen name (static_name l name o)
+      go (Some j) h = let w = name-found name 61 1 j h in by-static j.value (static-within j.value w.low (omega (arith, w.high))) w.holds refl
+      go None h = dynamic (first (serves name) l) refl
 
   -- what a representation is worth: it means the field, and an entry that it names is held and not under deletion
   abbrev Sound : Field → MeantItem → Type 0
@@ -167,15 +168,15 @@ module _ (l : List Sent) (a : Ascending sent_index 62 l) where
     unfolding static_field fields_of meant
     both-sound n = go (find_both f.name f.value) refl
       where
-        go : (o : StaticFound) → find_both f.name f.value ≡ o → Sound f (meant l (static_field l f o))
-        go (At j) h =
+        go : (o : prelude.Option TableIndex) → find_both f.name f.value ≡ o → Sound f (meant l (static_field l f o))
+        go (Some j) h =
             let w = both_found f.name f.value 61 1 j h in
             let static = static-within j.value w.low (omega (arith, w.high)) in
             let same : (entry_at j.value).name ≡ f.name = w.holds.0 in
             let same' : (entry_at j.value).value ≡ f.value = w.holds.1 in
             subst (Sound f) (sym (pick_true (is_static j.value) _ _ static))
             ((λ t k. record { flag = n t k; name = same k; value = same' k } ∷ []), tt)
-        go Nothing h = both-dynamic n (first (serves_both f.name f.value) l) refl
+        go None h = both-dynamic n (first (serves_both f.name f.value) l) refl
 
     choose-sound : Sound f (meant l (choose l f))
     unfolding choose

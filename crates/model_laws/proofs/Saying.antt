@@ -12,8 +12,6 @@ use Rattle.memory.proofs.Order.{pick-both}
 use Rattle.integers.specs.Integer.{largest}
 use Rattle.wire.specs.Name.{FineName}
 use Rattle.static_search.specs.Search.{find_name, find_both}
-use Rattle.static_search.specs.declared.search.StaticFound.{StaticFound}
-use Rattle.static_search.specs.declared.search.StaticFound.TheVariants.{At, Nothing}
 use Rattle.static_search.proofs.Finding.{name-found, both_found}
 use Rattle.fields.specs.Form.{Field}
 use Rattle.fields.specs.Form as form
@@ -35,6 +33,9 @@ use Rattle.model_laws.proofs.DecoderWays as decoder
 use Rattle.model_laws.proofs.Forms.{freed-held}
 use Rattle.model_laws.proofs.Collecting.{held-index}
 use Rattle.model_laws.proofs.FormsSent.{new-fine}
+use Rattle.std.specs.Prelude.{Some, None}
+use Rattle.integers.specs.declared.number.TableIndex.{TableIndex}
+use Rattle.std.specs.Prelude as prelude
 
 -- ---- the choice
 
@@ -49,10 +50,10 @@ module _ (l : List Sent) (order : Ascending sent_index 62 l) (entries : (i : ℕ
   dynamic-name name h none q = h
   dynamic-name name h (some e) q = first_fine (serves name) e q
 
-  static-name : (name : List ℕ) → length name ≤ 255 → (o : StaticFound) → find_name name ≡ o → FineName (static_name l name o)
+  static-name : (name : List ℕ) → length name ≤ 255 → (o : prelude.Option TableIndex) → find_name name ≡ o → FineName (static_name l name o)
   unfolding static_name
-  static-name name h (At j) q = let f = name-found name 61 1 j q in (omega arith, omega arith)
-  static-name name h Nothing q = dynamic-name name h (first (serves name) l) refl
+  static-name name h (Some j) q = let f = name-found name 61 1 j q in (omega arith, omega arith)
+  static-name name h None q = dynamic-name name h (first (serves name) l) refl
 
   pub name-fine : (name : List ℕ) → length name ≤ 255 → FineName (choose_name l name)
   unfolding choose_name
@@ -64,10 +65,10 @@ module _ (l : List Sent) (order : Ascending sent_index 62 l) (entries : (i : ℕ
     dynamic-field none q = (omega arith, name-fine f.name fine.name_short, fine.value_short)
     dynamic-field (some e) q = first_fine (serves_both f.name f.value) e q
 
-    static-field : (o : StaticFound) → find_both f.name f.value ≡ o → representation.FineRepresentation (static_field l f o)
+    static-field : (o : prelude.Option TableIndex) → find_both f.name f.value ≡ o → representation.FineRepresentation (static_field l f o)
     unfolding static_field
-    static-field (At j) q = let g = both_found f.name f.value 61 1 j q in (omega arith, omega arith)
-    static-field Nothing q = dynamic-field (first (serves_both f.name f.value) l) refl
+    static-field (Some j) q = let g = both_found f.name f.value 61 1 j q in (omega arith, omega arith)
+    static-field None q = dynamic-field (first (serves_both f.name f.value) l) refl
 
     pub choice-fine : representation.FineRepresentation (choose l f)
     unfolding choose

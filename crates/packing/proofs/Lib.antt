@@ -1,3 +1,2 @@
--- The laws of sizes eight to a word, and of writing packed bytes.
-pub mod Sizes
+-- The laws of writing packed bytes.
 pub mod Writing

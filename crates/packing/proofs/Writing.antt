@@ -17,7 +17,7 @@ use Rattle.huffman.specs.Codes.{code_of}
 use Rattle.huffman.specs.Bits.{bits_of, bytes_of, ones, Pushed}
 use Rattle.huffman.specs.Packing.{code_bits, codes_of, codes_size, packed_size, pack}
 use Rattle.packing.specs.Within.{packed_in, PackedOver}
-use Rattle.packing.specs.declared.pack.Packed.TheVariants.{Ends, Longer}
+use Rattle.std.proofs.Common.{Some, None}
 use Rattle.huffman.proofs.BitLaws.{length-bytes_of}
 use Rattle.huffman.proofs.Packs.{size-most}
 use Rattle.huffman.proofs.Pushing.{byte-off, word-off}
@@ -105,15 +105,6 @@ pub last_none : (l : List ℕ) (at n v : ℕ) → n < 8 → overlay l at (last_b
 unfolding last_bytes bytes_of
 last_none l at n v h = let e : n / 8 ≡ 0 = omega arith in ap (λ (m : ℕ). overlay l at (bytes_of m (bits_of n v))) e
 
--- ---- stores
-
-pub four-stores : (l : List ℕ) (at a b c d : ℕ)
-    → set (set (set (set l at a) (at + 1) b) (at + 2) c) (at + 3) d ≡ overlay l at (a ∷ b ∷ c ∷ d ∷ [])
-four-stores l at a b c d =
-    let e : at + 2 ≡ at + 1 + 1 = omega arith in
-    let f : at + 3 ≡ at + 1 + 1 + 1 = omega arith in
-    ap₂ (λ (i j : ℕ). set (set (set (set l at a) (at + 1) b) i c) j d) e f
-
 -- ---- the state of packing
 
 -- `out` holds the bytes that are written, up to the place `to`: the rest is n bits of u and the codes from the place i on
@@ -137,15 +128,15 @@ packing-start s out at u = record {
 }
 
 -- what packing comes to where the bytes would run past the end
-longer-in : (s : List ℕ) (at end : ℕ) → end < at + packed_size s → Longer ≡ packed_in s at end
+longer-in : (s : List ℕ) (at end : ℕ) → end < at + packed_size s → None ≡ packed_in s at end
 unfolding packed_in
-longer-in s at end h = sym (pick-false (leb (at + packed_size s) end) (Ends (at + packed_size s)) Longer (lt-leb (at + packed_size s) end h))
+longer-in s at end h = sym (pick-false (leb (at + packed_size s) end) (Some (at + packed_size s)) None (lt-leb (at + packed_size s) end h))
 
 longer-over : (s out out' junk : List ℕ) (at end : ℕ) → end < at + packed_size s → length junk ≤ end - at → out' ≡ overlay out at junk
     → PackedOver s at end out out'
 longer-over s out out' junk at end h l e = record { fits = λ k. absurd (omega arith); longer = λ k. (junk, l, e) }
 
-pub packing-none : (s out : List ℕ) (at end : ℕ) → end < at → (Longer ≡ packed_in s at end) × PackedOver s at end out out
+pub packing-none : (s out : List ℕ) (at end : ℕ) → end < at → (None ≡ packed_in s at end) × PackedOver s at end out out
 packing-none s out at end h = (longer-in s at end (omega arith), longer-over s out out [] at end (omega arith) (omega arith) refl)
 
 module _ {s out₀ : List ℕ} {at : ℕ} {out : List ℕ} {u n to i : ℕ} (p : Packing s out₀ at out u n to i) where
@@ -195,26 +186,26 @@ module _ {s out₀ : List ℕ} {at : ℕ} {out : List ℕ} {u n to i : ℕ} (p :
 
   -- what is left does not fit
   pub packing-longer : (end : ℕ) → to ≤ end → end - to < (n + codes_size (drop i s) + 7) / 8
-      → (Longer ≡ packed_in s at end) × PackedOver s at end out₀ out
+      → (None ≡ packed_in s at end) × PackedOver s at end out₀ out
   packing-longer end h l =
       let k : end < at + packed_size s = omega (arith, p.room) in
       (longer-in s at end k, longer-over s out₀ out p.bytes at end k (omega (arith, p.place)) p.stands)
 
   -- no code is left
   module _ (h : length s ≤ i) where
-    pub packing-rest : (end : ℕ) → to ≤ end → end - to < (n + 7) / 8 → (Longer ≡ packed_in s at end) × PackedOver s at end out₀ out
+    pub packing-rest : (end : ℕ) → to ≤ end → end - to < (n + 7) / 8 → (None ≡ packed_in s at end) × PackedOver s at end out₀ out
     packing-rest end b l = packing-longer end b (omega (arith, codes_size-past s i h))
 
     pub packing-ends : (end : ℕ) (out' : List ℕ) → to ≤ end → (n + 7) / 8 ≤ end - to
         → out' ≡ overlay out to (bytes_of ((n + 7) / 8) (bits_of n u ++ ones 7))
-        → (Ends (to + (n + 7) / 8) ≡ packed_in s at end) × PackedOver s at end out₀ out'
+        → (Some (to + (n + 7) / 8) ≡ packed_in s at end) × PackedOver s at end out₀ out'
     unfolding packed_in
     packing-ends end out' b l e =
         let k : at + packed_size s ≡ to + (n + 7) / 8 = omega (arith, p.room, codes_size-past s i h) in
         let f : at + packed_size s ≤ end = omega arith in
         let rest : List ℕ = bytes_of ((n + 7) / 8) (bits_of n u ++ ones 7) in
         let w : pack s ≡ p.bytes ++ rest = p.whole ∙ ap (λ (xs : List ℕ). p.bytes ++ xs) (remainder-end n u s i h) in (
-          ap Ends (sym k) ∙ sym (pick_true (leb (at + packed_size s) end) (Ends (at + packed_size s)) Longer (le-leb (at + packed_size s) end f)),
+          ap Some (sym k) ∙ sym (pick_true (leb (at + packed_size s) end) (Some (at + packed_size s)) None (le-leb (at + packed_size s) end f)),
           record {
             fits = λ _. e ∙ added rest ∙ ap (overlay out₀ at) (sym w);
             longer = λ q. absurd (omega arith);

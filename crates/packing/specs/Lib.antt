@@ -1,3 +1,2 @@
 -- What the functions of `packing` mean. Packed strings themselves are defined in `huffman`.
-pub mod Sizes
 pub mod Within

@@ -16,8 +16,6 @@ pub fn put_word(m: &mut [u8], at: usize, v: u64)
     requires { at + 4 ≤ length m.old }
     ensures { m.new ≡ overlay m.old at (bytes_of 4 (bits_of 32 v)) }
 {
-    m[at] = (v / 16_777_216 % 256) as u8;
-    m[at + 1] = (v / 65_536 % 256) as u8;
-    m[at + 2] = (v / 256 % 256) as u8;
-    m[at + 3] = (v % 256) as u8;
+    let bytes = ((v % (1 << 32)) as u32).to_be_bytes();
+    m[at..at + 4].copy_from_slice(&bytes);
 }

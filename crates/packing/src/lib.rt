@@ -2,5 +2,4 @@
 #![tactic(auto)]
 
 pub mod bits;
-pub mod code_sizes;
 pub mod pack;

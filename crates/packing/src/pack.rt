@@ -6,65 +6,49 @@ ghost use Rattle.huffman.specs.Packing.{packed_size};
 ghost use Rattle.packing.specs.Within.{packed_in, PackedOver};
 
 use crate::bits::{push, put_word};
-use crate::code_sizes::code_size;
 use huffman::code::{code, size};
-
-// What packing within an end comes to: the place after the packed bytes, or that these would run past the end.
-#[derive(Drop)]
-pub enum Packed {
-    Ends(usize),
-    Longer,
-}
 
 // How many bytes `s` takes packed.
 pub fn packed_size(s: &[u8]) -> usize
     requires { length s.now < 2 ^ 32 }
     ensures { result ≡ packed_size s.now }
 {
-    let mut bits: u64 = 0;
-    let mut i: usize = 0;
-    while i < s.len() {
-        bits += code_size(s[i]);
-        i += 1;
-    }
+    let bits: u64 = s.iter().map(|x| size(*x) as u64).sum();
     ((bits + 7) / 8) as usize
 }
 
-// Writes `s` packed from the place `at` on, if that ends at the place `end` or before. Bits wait in `u` until they are a word. The first word without room ends
+// Writes `s` packed from the place `at` on, if that ends at the place `end` or before, and answers the place after it. Bits wait in `u` until they are a word. The first word without room ends
 // it, and what was written up to there stays.
-pub fn pack(s: &[u8], out: &mut [u8], at: usize, end: usize) -> Packed
+pub fn pack(s: &[u8], out: &mut [u8], at: usize, end: usize) -> Option<usize>
     requires { end ≤ length out.old }
     ensures value { result ≡ packed_in s.now at end }
     ensures packed_over { PackedOver s.now at end out.old out.new }
 {
     if end < at {
-        return Packed::Longer;
+        return None;
     }
     let mut u: u64 = 0;
     let mut n: u64 = 0;
     let mut to = at;
-    let mut i: usize = 0;
-    while i < s.len() {
-        let x = s[i];
+    for &x in s {
         let bits = size(x) as u64;
         u = push(u, code(x), bits);
         n += bits;
         if 32 <= n {
             n -= 32;
             if end - to < 4 {
-                return Packed::Longer;
+                return None;
             }
             put_word(out, to, u >> n);
             to += 4;
         }
-        i += 1;
     }
     let rest = ((n + 7) / 8) as usize;
     if end - to < rest {
-        return Packed::Longer;
+        return None;
     }
     put_rest(u, n, out, to);
-    Packed::Ends(to + rest)
+    Some(to + rest)
 }
 
 // Writes the `n` bits that are left, padded with ones to whole bytes. These are at most four: the compiler would prepare a loop for many.

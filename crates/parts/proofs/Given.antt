@@ -12,7 +12,8 @@ use Rattle.model_laws.proofs.Marks.{part-number}
 use Rattle.model_laws.proofs.Tables.{nope}
 use Rattle.parts.specs.Turn.{part_turn, part_in, case_of, case_number, turn_of}
 use Rattle.parts.specs.declared.turn.Part.{Part as PartCase}
-use Rattle.parts.specs.declared.turn.Turn.TheVariants.{Of, Out}
+use Rattle.std.specs.Prelude.{Some, None}
+use Rattle.std.specs.Prelude as prelude
 
 -- a part in turn, of a stream that there is
 pub in-turn : (marks : Marks) (s : ℕ) (p : Part) → part_turn marks s (some p) ≡ true → (s < streams) × (in_turn marks s p ≡ true)
@@ -34,34 +35,35 @@ pub record Given (marks : Marks) (x n : ℕ) (s : StreamNumber) (c : PartCase) :
   pub turn : part_turn marks s.value (some (part_in c)) ≡ true
 
 module _ (marks : Marks) (stream n : ℕ) where
-  pub given : (s : StreamNumber) (c : PartCase) → turn_of marks stream (part_of n) ≡ Of s c → Given marks stream n s c
+  pub given : (s : StreamNumber) (c : PartCase) → turn_of marks stream (part_of n) ≡ Some (s, c) → Given marks stream n s c
   unfolding turn_of
   given s c e = go (part_of n) refl
     where
-      of : (p : Part) → part_of n ≡ some p → Of (record { value = stream }) (case_of p) ≡ Of s c → part_turn marks stream (some p) ≡ true → Given marks stream n s c
+      of : (p : Part) → part_of n ≡ some p → ◌≡◌ {A = prelude.Option (StreamNumber × PartCase)} (Some (record { value = stream }, case_of p)) (Some (s, c)) → part_turn marks stream (some p) ≡ true → Given marks stream n s c
       of p d f t =
-          let x : ◌≡◌ {A = StreamNumber} (record { value = stream }) s = cc in
-          let y : case_of p ≡ c = cc in
+          let both : ◌≡◌ {A = StreamNumber × PartCase} (record { value = stream }, case_of p) (s, c) = cc in
+          let x : ◌≡◌ {A = StreamNumber} (record { value = stream }) s = ap (λ (r : StreamNumber × PartCase). r.0) both in
+          let y : case_of p ≡ c = ap (λ (r : StreamNumber × PartCase). r.1) both in
           let v : stream ≡ s.value = ap (λ (k : StreamNumber). k.value) x in
           let q : p ≡ part_in c = sym (case-back p) ∙ ap part_in y in
           record { stream = v; number = part-number n (part_in c) (d ∙ ap some q); turn = rw (v, q) at t }
 
       go : (o : Option Part) → part_of n ≡ o → Given marks stream n s c
-      go none d = let f : Out ≡ Of s c = rw d at e in nope (cc)
+      go none d = let f : ◌≡◌ {A = prelude.Option (StreamNumber × PartCase)} None (Some (s, c)) = rw d at e in nope (cc)
       go (some p) d =
-          let f : turn_of marks stream (some p) ≡ Of s c = rw d at e in
+          let f : turn_of marks stream (some p) ≡ Some (s, c) = rw d at e in
           either (part_turn marks stream (some p))
           (λ t. of p d (sym (pick_true _ _ _ t) ∙ f) t)
-          (λ t. let g : Out ≡ Of s c = sym (pick-false _ _ _ t) ∙ f in nope (cc))
+          (λ t. let g : ◌≡◌ {A = prelude.Option (StreamNumber × PartCase)} None (Some (s, c)) = sym (pick-false _ _ _ t) ∙ f in nope (cc))
 
-  pub none-given : turn_of marks stream (part_of n) ≡ Out → part_turn marks stream (part_of n) ≡ false
+  pub none-given : turn_of marks stream (part_of n) ≡ None → part_turn marks stream (part_of n) ≡ false
   unfolding turn_of part_turn
   none-given e = go (part_of n) refl
     where
       go : (o : Option Part) → part_of n ≡ o → part_turn marks stream (part_of n) ≡ false
       go none d = ap (part_turn marks stream) d
       go (some p) d =
-          let f : turn_of marks stream (some p) ≡ Out = rw d at e in
+          let f : turn_of marks stream (some p) ≡ None = rw d at e in
           either (part_turn marks stream (some p))
-          (λ t. let g : Of (record { value = stream }) (case_of p) ≡ Out = sym (pick_true _ _ _ t) ∙ f in nope (cc))
+          (λ t. let g : Some (record { value = stream }, case_of p) ≡ None = sym (pick_true _ _ _ t) ∙ f in nope (cc))
           (λ t. ap (part_turn marks stream) d ∙ t)

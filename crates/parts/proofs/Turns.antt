@@ -14,8 +14,9 @@ use Rattle.model.specs.Parts.{Part, nontrailer, trailer, Marks, part_of, in_turn
 use Rattle.state.specs.Layout.{marks_place}
 use Rattle.state.specs.Front.{marks_of}
 use Rattle.parts.specs.Turn.{part_turn, case_of, turn_of}
-use Rattle.parts.specs.declared.turn.Turn.{Turn}
-use Rattle.parts.specs.declared.turn.Turn.TheVariants.{Of, Out}
+use Rattle.std.specs.Prelude.{Some, None}
+use Rattle.std.specs.Prelude as prelude
+use Rattle.parts.specs.declared.turn.Part.{Part as PartCase}
 
 -- ---- part numbers
 
@@ -76,31 +77,31 @@ module _ (m : List ℕ) (s n : ℕ) where
 -- ---- the answer, by the test
 
 module _ (m : List ℕ) (s n : ℕ) where
-  abbrev Answer : Turn
+  abbrev Answer : prelude.Option (StreamNumber × PartCase)
   Answer = turn_of (marks_of m) s (part_of n)
 
-  out : (q : Option Part) → part_turn (marks_of m) s q ≡ false → turn_of (marks_of m) s q ≡ Out
+  out : (q : Option Part) → part_turn (marks_of m) s q ≡ false → turn_of (marks_of m) s q ≡ None
   unfolding turn_of
   out none e = refl
   out (some p) e = pick-false _ _ _ e
 
-  pub above-out : streams ≤ s → Answer ≡ Out
+  pub above-out : streams ≤ s → Answer ≡ None
   above-out h = out (part_of n) (turn-above m s n h)
 
-  pub no-part-out : (n ≡ 0 → ⊥) → (n ≡ 1 → ⊥) → Answer ≡ Out
+  pub no-part-out : (n ≡ 0 → ⊥) → (n ≡ 1 → ⊥) → Answer ≡ None
   no-part-out z o = out (part_of n) (turn-no-part m s n z o)
 
   -- the stream as a type, and what was found of the part's mark
   module _ (x : StreamNumber) (new : x ≡ record { value = s }) (fits : s < streams) (b : Bool) where
-    of : (p : Part) → part_of n ≡ some p → b ≡ is_set m (marks_place p) x.value → Answer ≡ pick b (Of x (case_of p)) Out
+    of : (p : Part) → part_of n ≡ some p → b ≡ is_set m (marks_place p) x.value → Answer ≡ pick b (Some (x, case_of p)) None
     unfolding turn_of
     of p e found =
         let here : is_set m (marks_place p) s ≡ b = sym (found ∙ ap (λ (y : StreamNumber). is_set m (marks_place p) y.value) new) in
         let turn : part_turn (marks_of m) s (some p) ≡ b = sym (ap (part_turn (marks_of m) s) e) ∙ turn-part m s n p e fits ∙ here in
-        rw new (ap (turn_of (marks_of m) s) e ∙ ap (λ (t : Bool). pick t (Of (record { value = s }) (case_of p)) Out) turn)
+        rw new (ap (turn_of (marks_of m) s) e ∙ ap (λ (t : Bool). pick t (Some (record { value = s }, case_of p)) None) turn)
 
-    pub nontrailer-answer : n ≡ 0 → b ≡ is_set m (marks_place nontrailer) x.value → Answer ≡ pick b (Of x (case_of nontrailer)) Out
+    pub nontrailer-answer : n ≡ 0 → b ≡ is_set m (marks_place nontrailer) x.value → Answer ≡ pick b (Some (x, case_of nontrailer)) None
     nontrailer-answer e = of nontrailer (nontrailer-part n e)
 
-    pub trailer-answer : n ≡ 1 → b ≡ is_set m (marks_place trailer) x.value → Answer ≡ pick b (Of x (case_of trailer)) Out
+    pub trailer-answer : n ≡ 1 → b ≡ is_set m (marks_place trailer) x.value → Answer ≡ pick b (Some (x, case_of trailer)) None
     trailer-answer e = of trailer (trailer-part n e)

@@ -5,8 +5,9 @@ use Rattle.memory.specs.Choice.{pick}
 use Rattle.model.specs.Parts.{Part, nontrailer, trailer, part_number, Marks, in_turn, streams}
 use Rattle.parts.specs.declared.turn.Part.{Part as PartCase}
 use Rattle.parts.specs.declared.turn.Part.TheVariants.{Nontrailer, Trailer}
-use Rattle.parts.specs.declared.turn.Turn.{Turn}
-use Rattle.parts.specs.declared.turn.Turn.TheVariants.{Of, Out}
+use Rattle.std.specs.Prelude.{Some, None}
+use Rattle.integers.specs.declared.number.StreamNumber.{StreamNumber}
+use Rattle.std.specs.Prelude as prelude
 
 -- 11 is given for "stream above 4,095, part number not 0 (non-trailer) or 1 (trailer), or part out of turn"
 unfoldable pub part_turn : Marks → ℕ → Option Part → Bool
@@ -26,6 +27,6 @@ abbrev pub case_number : PartCase → ℕ
 case_number c = part_number (part_in c)
 
 -- the stream and the part where the part is in turn
-unfoldable pub turn_of : Marks → ℕ → Option Part → Turn
-turn_of marks stream none = Out
-turn_of marks stream (some p) = pick (part_turn marks stream (some p)) (Of (record { value = stream }) (case_of p)) Out
+unfoldable pub turn_of : Marks → ℕ → Option Part → prelude.Option (StreamNumber × PartCase)
+turn_of marks stream none = None
+turn_of marks stream (some p) = pick (part_turn marks stream (some p)) (Some (record { value = stream }, case_of p)) None

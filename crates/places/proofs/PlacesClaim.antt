@@ -9,16 +9,14 @@ use lib.ListN.{length, length-map}
 use lib.Dec.{leb}
 use borrow.Author.Tests.{leb-true, eqb-false}
 use Rattle.memory.proofs.Order.{need-both}
-use Rattle.integers.specs.Answers.{among, no_room}
+use Rattle.integers.specs.Answers.{among, no_room, on_read, Read, number_of}
 use Rattle.integers.specs.declared.number.TableIndex.{TableIndex}
 use Rattle.wire.specs.Name.{name_of}
 use Rattle.wire.specs.Text.{string_bytes}
 use Rattle.wire.specs.declared.name.NamePlace.{NamePlace}
 use Rattle.wire.specs.declared.text.StringPlace.{StringPlace}
-use Rattle.instructions.specs.Reading.{read_for_decoder, on_instruction, instruction_of}
+use Rattle.instructions.specs.Reading.{read_for_decoder, instruction_of}
 use Rattle.instructions.specs.declared.read.InstructionPlace.TheVariants.{Insert}
-use Rattle.instructions.specs.declared.read.InstructionRead.{InstructionRead}
-use Rattle.instructions.specs.declared.read.InstructionRead.TheVariants.{Found}
 use Rattle.statics.specs.Table.{Entry}
 use Rattle.model.specs.Table.{size}
 use Rattle.model.specs.Outcome.{Outcome}
@@ -40,6 +38,9 @@ use Rattle.reply.specs.Result.{Result, refused, stepped}
 use Rattle.decoder.specs.Calls.{read_call}
 use Rattle.encoder.specs.Calls.{insert_call}
 use Rattle.places.specs.Places.{PlacesClaim}
+use Rattle.std.specs.Prelude.{Ok}
+use Rattle.instructions.specs.declared.read.InstructionPlace.{InstructionPlace}
+use Rattle.integers.specs.declared.answer.Refusal.{Refusal}
 
 -- ---- on the model
 pub held-places : (D : Decoder) → D.limit ≤ 4096 → (e : Entry) → held_size D.entries + size e ≤ D.limit → length D.entries < 128
@@ -83,11 +84,11 @@ module _ (m : List ℕ) where
         let places = held-places (decoder_of m) (held-limit forms) (record { name = xs; value = string_bytes s value }) fits in
         omega (arith, places, held-count))
 
-    read-few : read_for_decoder s ≡ Found (Insert i name value) taken → Few (read_call m s)
+    read-few : read_for_decoder s ≡ Ok (Insert i name value, taken) → Few (read_call m s)
     unfolding read_call
     read-few found =
         need-both Few (forms_decoder m) _ _ (λ f e. absurd (omega arith))
-        (λ forms. subst (λ (r : InstructionRead). Few (on_instruction (refused m []) r
+        (λ forms. subst (λ (r : Read InstructionPlace). Few (on_read (λ (why : Refusal). refused m [] (number_of why)) r
         (λ p taken. stepped overlay_decoder m [] (read_instruction (decoder_of m) (instruction_of s p) taken)))) (sym found) (insert-few forms))
 
   -- ---- an insert

@@ -38,13 +38,13 @@ fn sign(out: &mut [u8], t: Text, c: u8, n: u64) -> Text {
 }
 
 fn number_at(numbers: [u64; NUMBERS], k: usize) -> u64 {
-    if k < NUMBERS { numbers[k] } else { 0 }
+    numbers.get(k).copied().unwrap_or(0)
 }
 
 // How many numbers are told behind this character.
 fn behind(told: usize, c: u8) -> usize {
     match c {
-        b'#' | b'~' | b'@' | b'%' => { if told < NUMBERS { told + 1 } else { told } }
+        b'#' | b'~' | b'@' | b'%' if told < NUMBERS => told + 1,
         _ => told,
     }
 }
@@ -54,12 +54,9 @@ fn behind(told: usize, c: u8) -> usize {
 pub fn filled(out: &mut [u8], t: Text, words: &[u8], numbers: [u64; NUMBERS]) -> Text {
     let mut a = t;
     let mut told: usize = 0;
-    let mut i: usize = 0;
-    while i < words.len() {
-        let c = words[i];
-        a = sign(out, a, c, number_at(numbers, told));
-        told = behind(told, c);
-        i += 1;
+    for c in words {
+        a = sign(out, a, *c, number_at(numbers, told));
+        told = behind(told, *c);
     }
     a
 }

@@ -5,7 +5,7 @@ ghost use Rattle.fields.specs.Reading.{InText};
 
 pub mod form;
 
-use fields::read::{FieldPlace, FieldRead, read_field};
+use fields::read::{FieldPlace, read_field};
 use reports::report::text_at;
 use shown_bytes::shown::{Place, place_in, shown_byte};
 use text_io::print;
@@ -13,28 +13,22 @@ use text_io::print::Text;
 
 fn character(out: &mut [u8], t: Text, place: Place, c: u8) -> Text {
     let shown = shown_byte(place, c);
-    let bytes = shown.bytes;
-    let n = shown.length;
-    print::words(out, t, &bytes[..n])
+    print::words(out, t, shown.as_bytes())
 }
 
 // Bytes as the name of a field is shown.
 pub fn name(out: &mut [u8], t: Text, s: &[u8]) -> Text {
     let mut k = t;
-    let mut i: usize = 0;
-    while i < s.len() {
-        k = character(out, k, Place::Name, s[i]);
-        i += 1;
+    for c in s {
+        k = character(out, k, Place::Name, *c);
     }
     k
 }
 
 fn value(out: &mut [u8], t: Text, s: &[u8]) -> Text {
     let mut k = t;
-    let mut i: usize = 0;
-    while i < s.len() {
-        k = character(out, k, place_in(i, s.len()), s[i]);
-        i += 1;
+    for (i, c) in s.iter().enumerate() {
+        k = character(out, k, place_in(i, s.len()), *c);
     }
     k
 }
@@ -64,9 +58,9 @@ fn field(out: &mut [u8], t: Text, list: &[u8], place: FieldPlace) -> Text
 fn each_field(out: &mut [u8], t: Text, list: &[u8]) -> Text {
     let mut k = t;
     let mut at: usize = 0;
+    // No step is counted, so `for` has none to take: where a field ends says its reader.
     while at < list.len() {
-        let r = read_field(list, at);
-        let FieldRead::Found(place, next) = r else {
+        let Ok((place, next)) = read_field(list, at) else {
             return k;
         };
         k = comma(out, k, at);
@@ -78,7 +72,7 @@ fn each_field(out: &mut [u8], t: Text, list: &[u8]) -> Text {
 
 // The fields one after another.
 pub fn fields(out: &mut [u8], t: Text, list: &[u8]) -> Text {
-    if list.len() == 0 {
+    if list.is_empty() {
         return print::words(out, t, b"no fields");
     }
     each_field(out, t, list)

@@ -9,7 +9,8 @@ use recorded_parts::{behind, first, lent, own};
 use recording::{Call, Kind};
 use reply::Reply;
 
-// The call on the memory of its end; the other end's is left as it is.
+// The call on the memory of its end; the other end's is left as it is. Each kind is an arm: closures in a table would all borrow the same
+// memories and the output.
 pub fn perform(
     call: Call,
     bytes: &[u8],

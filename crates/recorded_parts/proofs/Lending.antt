@@ -1,5 +1,5 @@
 -- The bytes that are lent are the first of the output, as many as the room says, and the others are left.
-use Prim.Native.Nat.{ℕ, ◌≤◌, ◌<◌}
+use Prim.Native.Nat.{ℕ, ◌≤◌, ◌<◌, min}
 use mathlib.Core.Path.{◌≡◌, sym, ap, ◌∙◌}
 use native.Mathlib.Omega.{arith}
 use mathlib.Core.List.{List}
@@ -16,6 +16,9 @@ lent-part room n h = simp (lt-ltb room n h)
 pub lent-all : (room n : ℕ) → n ≤ room → lent_of room n ≡ n
 unfolding lent_of
 lent-all room n h = simp (le-ltb room n h)
+
+pub lent-min : (room n : ℕ) → min room n ≡ lent_of room n
+lent-min room n = split room n (λ h. omega (arith, lent-part room n h)) (λ h. omega (arith, lent-all room n h))
 
 module _ (room : ℕ) (out : List ℕ) where
   pub lent-within : lent_of room (length out) ≤ length out

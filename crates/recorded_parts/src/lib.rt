@@ -10,21 +10,14 @@ use recording::Call;
 pub fn first<'a>(s: &'a [u8], n: usize) -> &'a [u8]
     ensures { result.now ≡ take n s.now }
 {
-    if n < s.len() {
-        return &s[..n];
-    }
-    s
+    &s[..n.min(s.len())]
 }
 
 // What stands behind the first `n` bytes.
 pub fn behind<'a>(s: &'a [u8], n: usize) -> &'a [u8]
     ensures { result.now ≡ drop n s.now }
 {
-    if n < s.len() {
-        return &s[n..];
-    }
-    let end = s.len();
-    &s[end..]
+    &s[n.min(s.len())..]
 }
 
 // The call's own bytes, the first of those that stand there.
@@ -39,8 +32,5 @@ pub fn lent(call: Call, n: usize) -> usize
     ensures { result ≡ lent_of call.room n }
 {
     let room = call.room;
-    if room < n {
-        return room;
-    }
-    n
+    room.min(n)
 }

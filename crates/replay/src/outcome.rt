@@ -1,7 +1,7 @@
 // What is printed of a line.
 use integers::answer::DONE;
 use labels::not_a_call;
-use recording::{Kind, has_output};
+use recording::Kind;
 use reply::Reply;
 use text_io::print;
 use text_io::print::Text;
@@ -17,7 +17,7 @@ pub fn outcome(kind: Kind, r: Reply, output: &[u8], text: &mut [u8], t: Text) ->
     let a = print::number(text, t, r.number as u64);
     let b = told(text, a, r.first);
     let c = told(text, b, r.second);
-    if r.number == DONE && has_output(kind) {
+    if r.number == DONE && kind.has_output() {
         let d = written(output, r.first as usize, text, c);
         return print::byte(text, d, b'\n');
     }

@@ -57,7 +57,7 @@ fn ended(rt: &HostRuntime, p: Progress, text: &[u8]) {
 
 // The number of the line behind this one, up to the largest number.
 fn following(line: u64) -> u64 {
-    if line < u64::MAX { line + 1 } else { line }
+    line.saturating_add(1)
 }
 
 // Runs the lines up to the last, or to one that cannot be read or told.
@@ -73,30 +73,23 @@ fn run_lines(
 ) -> Progress {
     let mut reader = Reader::new();
     let mut t = start;
-    let mut line: u64 = 0;
-    while line < u64::MAX {
+    for line in 0..u64::MAX {
         if t.lost {
             return Progress::at(t, line, false);
         }
-        let turn = run_next(source, input, reader, bytes, decoder, encoder, output);
-        let ran = turn.ran;
-        if let Ran::End = ran {
-            return Progress::at(t, line, false);
+        match run_next(source, input, &mut reader, bytes, decoder, encoder, output) {
+            Ok(Some(ran)) => t = told(ran, line + 1, output, text, t),
+            Ok(None) => return Progress::at(t, line, false),
+            Err(_) => return Progress::at(t, line, true),
         }
-        if let Ran::Failed = ran {
-            return Progress::at(t, line, true);
-        }
-        reader = turn.rest;
-        line += 1;
-        t = told(ran, line, output, text, t);
     }
-    Progress::at(t, line, false)
+    Progress::at(t, u64::MAX, false)
 }
 
 // Prints what became of a line.
 fn told(ran: Ran, line: u64, output: &[u8], text: &mut [u8], t: Text) -> Text {
     match ran {
-        Ran::Comment | Ran::End | Ran::Failed => t,
+        Ran::Comment => t,
         Ran::Bad(_) => bad_line(text, t, line),
         Ran::Answered(call, r) => {
             let kind = call.kind;

@@ -2,10 +2,10 @@
 #![tactic(auto)]
 
 ghost use Rattle.std.specs.Prelude.{◌≡◌};
-ghost use Rattle.integers.specs.Answers.{done, refusal};
+ghost use Rattle.integers.specs.Answers.{done, refusal, number_of};
 ghost use Rattle.reply.specs.Reply.{answer_of, joined, Narrow};
 
-use integers::answer::DONE;
+use integers::answer::{DONE, Refusal};
 
 #[derive(Clone, Copy)]
 pub struct Reply {
@@ -26,7 +26,7 @@ impl Reply {
         }
     }
 
-    // A refusal tells nothing.
+    // A refusal by its number, which tells nothing else.
     pub fn refused(number: u8) -> Reply
         ensures { answer_of result ≡ refusal number }
     {
@@ -35,6 +35,13 @@ impl Reply {
             first: 0,
             second: 0,
         }
+    }
+
+    // The same, by what is refused.
+    pub fn because(why: Refusal) -> Reply
+        ensures { answer_of result ≡ refusal (number_of why) }
+    {
+        Reply::refused(why.number())
     }
 
     // The one number that a C host gets: answer, first from bit 8 on, second from bit 40 on.

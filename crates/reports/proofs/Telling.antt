@@ -3,14 +3,16 @@ use mathlib.Core.Path.{◌≡◌, refl, sym, ap, subst, ◌∙◌}
 use mathlib.Core.Bool.{Bool, true, false}
 use mathlib.Core.List.{List, [], ◌∷◌, ◌++◌}
 use Prim.Native.Nat.{ℕ}
+use Rattle.std.specs.Prelude.{Ok, Err}
 use Rattle.memory.specs.Choice.{pick}
 use Rattle.memory.specs.Compare.{same}
 use Rattle.fields.specs.Form.{Field}
 use Rattle.fields.specs.Reading.{read_field_list, text_of, field_of, InText}
 use Rattle.fields.specs.declared.read.TextPlace.{TextPlace}
 use Rattle.fields.specs.declared.read.FieldPlace.{FieldPlace}
-use Rattle.reports.specs.Report.{Checked, Checked.fails, values_of, exactly_once, present}
+use Rattle.reports.specs.Report.{Checked, values_of, exactly_once, present}
 use Rattle.reports.specs.Said.{Times, Times.never, Times.once, Times.often, times, times_told, fields_in, SaidInside, with_value, with_field}
+use Rattle.reports.specs.declared.report.Why.{Why}
 use Rattle.reports.specs.declared.report.Why.TheVariants.{Missing, MoreThanOnce}
 use Rattle.reports.specs.declared.said.Said.{Said}
 use Rattle.reports.specs.declared.said.Said.TheVariants.{Nothing, Once, More}
@@ -84,9 +86,9 @@ module _ (name s : List ℕ) (p : FieldPlace) (so_far next : Said) (e : next ≡
 -- ---- what is looked for under the name
 
 looked : {X : Type 0} → Times → (List ℕ → Checked X) → Checked X
-looked never look = fails Missing
+looked never look = Err Missing
 looked (once v) look = look v
-looked often look = fails MoreThanOnce
+looked often look = Err MoreThanOnce
 
 looked-once : {X : Type 0} (vs : List (List ℕ)) (look : List ℕ → Checked X) → looked (times vs) look ≡ exactly_once vs look
 unfolding looked exactly_once
@@ -94,15 +96,28 @@ looked-once [] look = refl
 looked-once (v ∷ []) look = refl
 looked-once (v ∷ w ∷ ws) look = refl
 
+-- what is looked at is the one value; where there is none, or more, that is told of it
+pub kept-err : {X : Type 0} (vs : List (List ℕ)) (look : List ℕ → Checked X) (why : Why) → Err why ≡ exactly_once vs Ok → Err why ≡ exactly_once vs look
+unfolding exactly_once
+kept-err [] look why e = cc
+kept-err (v ∷ []) look why e = cc
+kept-err (v ∷ w ∷ ws) look why e = cc
+
+pub kept-ok : {X : Type 0} (vs : List (List ℕ)) (look : List ℕ → Checked X) (v : List ℕ) → Ok v ≡ exactly_once vs Ok → look v ≡ exactly_once vs look
+unfolding exactly_once
+kept-ok [] look v e = cc
+kept-ok (w ∷ []) look v e = cc
+kept-ok (w ∷ x ∷ xs) look v e = cc
+
 module _ (s : List ℕ) (vs : List (List ℕ)) (r : Said) (e : times_told s r ≡ times vs) where
   found : {X : Type 0} (look : List ℕ → Checked X) (known : Said) → r ≡ known → looked (times_told s known) look ≡ exactly_once vs look
   found look known d = ap (λ (k : Said). looked (times_told s k) look) (sym d) ∙ ap (λ (t : Times). looked t look) e ∙ looked-once vs look
 
-  pub told-nothing : {X : Type 0} (look : List ℕ → Checked X) → r ≡ Nothing → fails Missing ≡ exactly_once vs look
+  pub told-nothing : {X : Type 0} (look : List ℕ → Checked X) → r ≡ Nothing → Err Missing ≡ exactly_once vs look
   unfolding looked
   told-nothing look d = found look Nothing d
 
-  pub told-often : {X : Type 0} (look : List ℕ → Checked X) → r ≡ More → fails MoreThanOnce ≡ exactly_once vs look
+  pub told-often : {X : Type 0} (look : List ℕ → Checked X) → r ≡ More → Err MoreThanOnce ≡ exactly_once vs look
   unfolding looked
   told-often look d = found look More d
 

@@ -1,21 +1,19 @@
 -- What the functions below `judge` tell of a list, each in the terms of Report.antt.
-use Rattle.std.specs.Prelude.{ℕ, List, [], ◌∷◌}
+use Rattle.std.specs.Prelude.{ℕ, List, [], ◌∷◌, Result, Ok, Err}
 use Rattle.memory.specs.Choice.{pick}
 use Rattle.memory.specs.Compare.{same}
 use Rattle.fields.specs.Form.{Field}
 use Rattle.fields.specs.Reading.{FieldListRead, FieldListRead.list, FieldListRead.refused, text_of, InText}
 use Rattle.fields.specs.declared.read.TextPlace.{TextPlace}
 use Rattle.fields.specs.declared.read.FieldPlace.{FieldPlace}
-use Rattle.reports.specs.Report.{Checked, Checked.fine, Checked.fails, exactly_once, values_of, tenths}
+use Rattle.reports.specs.Report.{Checked, exactly_once, values_of, tenths}
 use Rattle.reports.specs.declared.report.Named.TheVariants.{Machine, Hours, Turns}
-use Rattle.reports.specs.declared.report.Judged.{Judged}
-use Rattle.reports.specs.declared.report.Judged.TheVariants.{Report, Unclear}
+use Rattle.reports.specs.declared.report.Why.{Why}
+use Rattle.reports.specs.declared.report.Report.{Report}
+use Rattle.reports.specs.declared.report.NoReport.{NoReport}
+use Rattle.reports.specs.declared.report.NoReport.TheVariants.{Unclear}
 use Rattle.reports.specs.declared.said.Said.{Said}
 use Rattle.reports.specs.declared.said.Said.TheVariants.{Nothing, Once, More}
-use Rattle.reports.specs.declared.report.MachineSaid.{MachineSaid}
-use Rattle.reports.specs.declared.report.MachineSaid.TheVariants.{At, Fails as MachineFails}
-use Rattle.reports.specs.declared.report.NumberSaid.{NumberSaid}
-use Rattle.reports.specs.declared.report.NumberSaid.TheVariants.{Number, Fails as NumberFails}
 
 -- how often a name stands, and its value where it stands once
 pub data Times : Type 0 where
@@ -57,21 +55,17 @@ with_field name s before f = pick (same (text_of s f.name) name) (with_value bef
 abbrev pub under : {X : Type 0} → List ℕ → FieldListRead → (List ℕ → Checked X) → Checked X
 under name fields look = exactly_once (values_of name (fields_in fields)) look
 
-abbrev pub machine_told : List ℕ → MachineSaid → Checked (List ℕ)
-machine_told s (At place) = fine (text_of s place)
-machine_told s (MachineFails why) = fails why
+abbrev pub machine_told : List ℕ → Result TextPlace Why → Checked (List ℕ)
+machine_told s (Ok place) = Ok (text_of s place)
+machine_told s (Err why) = Err why
 
-abbrev pub MachineInside : List ℕ → MachineSaid → Type 0
-MachineInside s (At place) = InText s place
-MachineInside s (MachineFails why) = Unit {0}
-
-abbrev pub number_told : NumberSaid → Checked ℕ
-number_told (Number n) = fine n
-number_told (NumberFails why) = fails why
+abbrev pub MachineInside : List ℕ → Result TextPlace Why → Type 0
+MachineInside s (Ok place) = InText s place
+MachineInside s (Err why) = Unit {0}
 
 -- the three together
-abbrev pub combine : MachineSaid → NumberSaid → NumberSaid → Judged
-combine (At place) (Number hours) (Number turns) = Report place (tenths turns hours)
-combine (At place) (Number hours) (NumberFails why) = Unclear Turns why
-combine (At place) (NumberFails why) turns = Unclear Hours why
-combine (MachineFails why) hours turns = Unclear Machine why
+abbrev pub combine : Result TextPlace Why → Result ℕ Why → Result ℕ Why → Result Report NoReport
+combine (Ok place) (Ok hours) (Ok turns) = Ok (record { machine = place; tenths = tenths turns hours })
+combine (Ok place) (Ok hours) (Err why) = Err (Unclear Turns why)
+combine (Ok place) (Err why) turns = Err (Unclear Hours why)
+combine (Err why) hours turns = Err (Unclear Machine why)

@@ -1,162 +1,129 @@
 // Which field lists are a machine's report: each of `machine`, `hours` and `turns` stands in it exactly once, in its range.
-ghost use Rattle.std.specs.Prelude.{◌≡◌};
+ghost use Rattle.std.specs.Prelude.{◌≡◌, Ok};
 ghost use Rattle.fields.specs.Reading.{read_field_list};
 ghost use Rattle.shown_bytes.specs.Ascii.{all_printable};
 ghost use Rattle.reports.specs.Report.{machine_name, machine_text, number_text, is_machine, judged, told, Within, present, values_of, trailer_judged};
-ghost use Rattle.reports.specs.Said.{fields_in, under, machine_told, MachineInside, number_told, combine};
+ghost use Rattle.reports.specs.Said.{fields_in, under, machine_told, MachineInside, combine};
 
 pub use crate::said::text_at;
 use crate::said::{Said, look_up};
 use fields::read::{TextPlace, check_list};
-use integers::answer::DONE;
 use shown_bytes::shown::printable;
-use tokens::{NumberRead, number};
+use tokens::number;
 
 // How many characters a machine's name has at most.
 const LONGEST: usize = 15;
-
-// The largest number that counts.
-const MOST: u64 = 65_535;
 
 // How many tenths of an hour the counter counts before it turns over.
 const TURN: u32 = 65_536;
 
 // The fields of a report.
-#[derive(Clone, Copy)]
+#[derive(Clone, Copy, Debug, PartialEq, Eq)]
 pub enum Named {
     Machine,
     Hours,
     Turns,
 }
 
-#[derive(Drop)]
+#[derive(Clone, Copy, Debug, PartialEq, Eq)]
 pub enum Why {
     Missing,
     MoreThanOnce,
     OutOfRange,
 }
 
-// A report: the machine's place in the list, and the tenths of an hour. Else which of the fields fails first, and how; or the bytes are no
-// field list.
-#[derive(Drop)]
-pub enum Judged {
-    Report(TextPlace, u32),
+// The machine's place in the list, and the tenths of an hour.
+#[derive(Clone, Copy)]
+pub struct Report {
+    pub machine: TextPlace,
+    pub tenths: u32,
+}
+
+// Why a list is no report: which of the fields fails first, and how; or the bytes are no field list.
+#[derive(Clone, Copy, Debug, PartialEq, Eq)]
+pub enum NoReport {
     Unclear(Named, Why),
     NoList,
 }
 
-// Which of the fields a trailer has first, where it should have none.
-#[derive(Drop)]
-pub enum TrailerJudged {
-    Without,
-    Has(Named),
-    NoList,
-}
-
-// A list's one machine, or how it fails.
-#[derive(Drop)]
-enum MachineSaid {
-    At(TextPlace),
-    Fails(Why),
-}
-
-// A list's one number under a name, or how it fails.
-#[derive(Drop)]
-enum NumberSaid {
-    Number(u16),
-    Fails(Why),
-}
+// The bytes are no field list.
+#[derive(Clone, Copy, Debug, PartialEq, Eq)]
+pub struct NoList;
 
 fn all_printable(text: &[u8]) -> bool
     ensures { result ≡ all_printable text.now }
 {
-    let mut i: usize = 0;
-    while i < text.len() {
-        if !printable(text[i]) {
-            return false;
-        }
-        i += 1;
-    }
-    true
+    text.iter().all(|c| printable(*c))
 }
 
+#[tactic(auto, unfolding(crate::specs::Report::is_machine))]
 fn is_machine(text: &[u8]) -> bool
     ensures { result ≡ is_machine text.now }
 {
-    if text.len() == 0 {
-        return false;
-    }
-    if LONGEST < text.len() {
-        return false;
-    }
-    all_printable(text)
+    !text.is_empty() && text.len() <= LONGEST && all_printable(text)
 }
 
-fn machine_said(list: &[u8]) -> MachineSaid
+// The place of the value that the list has under a name, if it has one and only one.
+fn only(list: &[u8], name: &[u8]) -> Result<TextPlace, Why>
+    ensures result_value { machine_told list.now result ≡ under name.now (read_field_list list.now) Ok }
+    ensures inside { MachineInside list.now result }
+{
+    let said = look_up(list, name);
+    match said {
+        Said::Nothing => Err(Why::Missing),
+        Said::More => Err(Why::MoreThanOnce),
+        Said::Once(place) => Ok(place),
+    }
+}
+
+fn machine_said(list: &[u8]) -> Result<TextPlace, Why>
     ensures result_value { machine_told list.now result ≡ under machine_name (read_field_list list.now) machine_text }
     ensures machine_inside { MachineInside list.now result }
 {
-    let s = look_up(list, b"machine");
-    match s {
-        Said::Nothing => MachineSaid::Fails(Why::Missing),
-        Said::More => MachineSaid::Fails(Why::MoreThanOnce),
-        Said::Once(place) => {
-            if is_machine(text_at(list, place)) {
-                return MachineSaid::At(place);
-            }
-            MachineSaid::Fails(Why::OutOfRange)
-        }
+    let place = only(list, b"machine")?;
+    if !is_machine(text_at(list, place)) {
+        return Err(Why::OutOfRange);
     }
+    Ok(place)
 }
 
-fn small_number(text: &[u8]) -> NumberSaid
-    ensures { number_told result ≡ number_text text.now }
+fn small_number(text: &[u8]) -> Result<u16, Why>
+    ensures { result ≡ number_text text.now }
 {
-    let r = number(text);
-    let NumberRead::Value(n) = r else {
-        return NumberSaid::Fails(Why::OutOfRange);
-    };
-    if MOST < n {
-        return NumberSaid::Fails(Why::OutOfRange);
-    }
-    NumberSaid::Number(n as u16)
+    let n = number(text).ok_or(Why::OutOfRange)?;
+    u16::try_from(n).map_err(|_| Why::OutOfRange)
 }
 
-fn number_said(list: &[u8], name: &[u8]) -> NumberSaid
-    ensures { number_told result ≡ under name.now (read_field_list list.now) number_text }
+fn number_said(list: &[u8], name: &[u8]) -> Result<u16, Why>
+    ensures { result ≡ under name.now (read_field_list list.now) number_text }
 {
-    let s = look_up(list, name);
-    match s {
-        Said::Nothing => NumberSaid::Fails(Why::Missing),
-        Said::More => NumberSaid::Fails(Why::MoreThanOnce),
-        Said::Once(place) => small_number(text_at(list, place)),
-    }
+    let place = only(list, name)?;
+    small_number(text_at(list, place))
 }
 
 // The first that fails is told. "(turns x 65,536 + hours) / 10", here in tenths.
-fn combined(machine: MachineSaid, hours: NumberSaid, turns: NumberSaid) -> Judged
+fn combined(
+    machine: Result<TextPlace, Why>,
+    hours: Result<u16, Why>,
+    turns: Result<u16, Why>,
+) -> Result<Report, NoReport>
     ensures { result ≡ combine machine hours turns }
 {
-    match machine {
-        MachineSaid::Fails(why) => Judged::Unclear(Named::Machine, why),
-        MachineSaid::At(place) => match hours {
-            NumberSaid::Fails(why) => Judged::Unclear(Named::Hours, why),
-            NumberSaid::Number(h) => match turns {
-                NumberSaid::Fails(why) => Judged::Unclear(Named::Turns, why),
-                NumberSaid::Number(t) => { Judged::Report(place, (t as u32) * TURN + (h as u32)) }
-            },
-        },
-    }
+    let machine = machine.map_err(|why| NoReport::Unclear(Named::Machine, why))?;
+    let hours = hours.map_err(|why| NoReport::Unclear(Named::Hours, why))?;
+    let turns = turns.map_err(|why| NoReport::Unclear(Named::Turns, why))?;
+    Ok(Report {
+        machine,
+        tenths: u32::from(turns) * TURN + u32::from(hours),
+    })
 }
 
 // Is the list a report?
-pub fn judge(list: &[u8]) -> Judged
+pub fn judge(list: &[u8]) -> Result<Report, NoReport>
     ensures result_value { told list.now result ≡ judged (read_field_list list.now) }
     ensures within { Within list.now result }
 {
-    if check_list(list) != DONE {
-        return Judged::NoList;
-    }
+    check_list(list).map_err(|_| NoReport::NoList)?;
     let machine = machine_said(list);
     let hours = number_said(list, b"hours");
     let turns = number_said(list, b"turns");
@@ -166,29 +133,26 @@ pub fn judge(list: &[u8]) -> Judged
 fn has(list: &[u8], name: &[u8]) -> bool
     ensures { result ≡ present (values_of name.now (fields_in (read_field_list list.now))) }
 {
-    let s = look_up(list, name);
-    match s {
+    let said = look_up(list, name);
+    match said {
         Said::Nothing => false,
-        Said::Once(_) => true,
-        Said::More => true,
+        Said::Once(_) | Said::More => true,
     }
 }
 
-// Does the list of a trailer have one of the fields?
-pub fn judge_trailer(list: &[u8]) -> TrailerJudged
+// Which of the fields the list of a trailer has first, where it should have none.
+pub fn judge_trailer(list: &[u8]) -> Result<Option<Named>, NoList>
     ensures { result ≡ trailer_judged (read_field_list list.now) }
 {
-    if check_list(list) != DONE {
-        return TrailerJudged::NoList;
-    }
+    check_list(list).map_err(|_| NoList)?;
     if has(list, b"machine") {
-        return TrailerJudged::Has(Named::Machine);
+        return Ok(Some(Named::Machine));
     }
     if has(list, b"hours") {
-        return TrailerJudged::Has(Named::Hours);
+        return Ok(Some(Named::Hours));
     }
     if has(list, b"turns") {
-        return TrailerJudged::Has(Named::Turns);
+        return Ok(Some(Named::Turns));
     }
-    TrailerJudged::Without
+    Ok(None)
 }

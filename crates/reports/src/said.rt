@@ -4,10 +4,11 @@ ghost use Rattle.fields.specs.Reading.{read_field_list, text_of, InText};
 ghost use Rattle.reports.specs.Report.{values_of};
 ghost use Rattle.reports.specs.Said.{times, times_told, fields_in, SaidInside, with_value, with_field};
 
-use fields::read::{FieldPlace, FieldRead, TextPlace, read_field};
+use fields::read::{FieldPlace, TextPlace, read_field};
 use tokens::is;
 
-#[derive(Drop)]
+// Three answers, so neither an Option nor a Result: no value, one, or more, which are told apart.
+#[derive(Clone, Copy)]
 pub enum Said {
     Nothing,
     Once(TextPlace),
@@ -53,9 +54,9 @@ pub fn look_up(list: &[u8], name: &[u8]) -> Said
 {
     let mut told = Said::Nothing;
     let mut at: usize = 0;
+    // No step is counted, so `for` has none to take: where a field ends says its reader.
     while at < list.len() {
-        let r = read_field(list, at);
-        let FieldRead::Found(place, next) = r else {
+        let Ok((place, next)) = read_field(list, at) else {
             return Said::Nothing;
         };
         told = with_field(told, name, list, place);

@@ -123,8 +123,8 @@ module _ (m : List ℕ) (small : Small m) where
         go : forms_encoder m ≡ true → (r : FieldListRead) → read_field_list s ≡ r
             → Done Encoded (on_list (refused m out) r (λ fs. stepped overlay_encoder m out (encode_block E stream part fs (length out))))
         go f (lists.FieldListRead.list fs) e z = fields-encoded f fs e z
-        go f (lists.FieldListRead.refused number) e z =
-            ⊎_elim (λ d. absurd (omega arith)) (λ d. absurd (omega arith)) (list-number s (length s) 0 [] number e)
+        go f (lists.FieldListRead.refused why) e z =
+            ⊎_elim (λ d. absurd (omega arith)) (λ d. absurd (omega arith)) (list-number s (length s) 0 [] why e)
 
 pub written-claim : WrittenClaim
 written-claim = record {

@@ -1,5 +1,5 @@
 -- Demand 2 at the encoder: what its calls write is what the model's choice says, and reads back.
-use Rattle.std.specs.Prelude.{◌≡◌, ℕ, List, map, length, take}
+use Rattle.std.specs.Prelude.{◌≡◌, ℕ, List, map, length, take, Ok}
 use Rattle.std.proofs.Math.Option.{Option, none, some}
 use Rattle.memory.specs.Bytes.{Small}
 use Rattle.fields.specs.Form.{Field, list_form}
@@ -8,7 +8,6 @@ use Rattle.fields.specs.Reading as lists
 use Rattle.instructions.specs.Instruction.{Instruction, insert}
 use Rattle.instructions.specs.Reading.{read_for_decoder, instruction_of}
 use Rattle.instructions.specs.declared.read.InstructionPlace.{InstructionPlace}
-use Rattle.instructions.specs.declared.read.InstructionRead.TheVariants.{Found}
 use Rattle.blocks.specs.Reading.{block, read_block}
 use Rattle.blocks.specs.Meaning.{Slot, vacant, holds, with_statics, list, block_meaning}
 use Rattle.model.specs.Table.{look}
@@ -24,7 +23,7 @@ wrote r = take r.answer.first r.output
 -- the bytes read, whole, as this instruction at the decoder's reader
 pub record ReadsAs (b : List ℕ) (i : Instruction) : Type 0 where
   pub place : InstructionPlace
-  pub found : read_for_decoder b ≡ Found place (length b)
+  pub found : read_for_decoder b ≡ Ok (place, length b)
   pub is : instruction_of b place ≡ i
 
 -- what an index names at the encoder: a static entry, or one that it holds, those under deletion included

@@ -5,19 +5,12 @@ use Prim.Native.Nat.{ℕ, zero, suc, ◌+◌, ◌-◌, ◌*◌, ◌/◌, ◌%◌
 use native.Mathlib.Omega.{arith}
 use lib.Dec.{eqb, ltb, leb}
 use borrow.Author.Tests.{ltb-true, leb-true, eqb-true}
+use Rattle.std.proofs.lemmas.Bool.{agree_below, agree_below_at}
 use Rattle.memory.specs.Choice.{pick}
 use Rattle.memory.proofs.Order.{split}
 use Rattle.huffman.specs.Codes.{codes, code_of}
-use Rattle.huffman.proofs.Arms.{NoneBelow, none_below}
 use Rattle.huffman.proofs.Prefixes.{pick_first, pick_second}
 use Rattle.short_codes.specs.Short.{is_short, short_in, short_of}
-
--- the program turns the byte by half a circle, and this turns it back
-pub turned : {x k : ℕ} → x < 256 → (x + 128) % 256 ≡ k → (k + 128) % 256 ≡ x
-turned h e = omega arith
-
-pub turned-last : {x : ℕ} → x < 256 → NoneBelow 255 ((x + 128) % 256) → 127 ≡ x
-turned-last {x} h r = omega (arith, none_below 255 ((x + 128) % 256) r)
 
 -- 254 and 255 begin longer codes
 pub short_none : (x : ℕ) → 254 ≤ x → x < 256 → short_of x ≡ 64
@@ -38,27 +31,15 @@ right x =
     (pick (eqb (short_of x % 256) (code_of (short_of x / 256)).size)
     (pick (leb (short_of x % 256) 8) (eqb (x / 2 ^ (8 - short_of x % 256)) (code_of (short_of x / 256)).value) false) false) false
 
--- does the test hold of each number below n?
-unfoldable pub below : (ℕ → Bool) → ℕ → Bool
-below f zero = true
-below f (suc n) = pick (below f n) (f n) false
-
-pub below_at : (f : ℕ → Bool) (n : ℕ) → below f n ≡ true → (k : ℕ) → k < n → f k ≡ true
-unfolding below
-below_at f zero t k h = absurd (omega arith)
-below_at f (suc n) t k h =
-    split k n (λ l. below_at f n (pick_first (below f n) (f n) t) k l)
-    (λ l. let e : n ≡ k = omega arith in ap f (sym e) ∙ pick_second (below f n) (f n) t)
-
-all_right : below right 254 ≡ true
-unfolding below right short_of short_in is_short code_of codes
+all_right : agree_below right (λ _. true) 254 ≡ true
+unfolding right short_of short_in is_short code_of codes
 all_right = refl
 
 pub short-front : (x : ℕ) → x < 254 → ShortFront x (short_of x)
 unfolding right
 short-front x h =
     let c = short_of x in
-    let t = below_at right 254 all_right x h in
+    let t = agree_below_at right (λ _. true) 254 x all_right h in
     let p = ltb (c / 256) 256 in
     let q = eqb (c % 256) (code_of (c / 256)).size in
     let r = leb (c % 256) 8 in

@@ -2,4 +2,3 @@
 #![tactic(auto)]
 
 pub mod code;
-pub mod size;

@@ -3,41 +3,14 @@ ghost use Rattle.std.specs.Prelude.{◌≡◌, ◌<◌, ◌≤◌, length, get_o
 ghost use Rattle.blocks.specs.Reading.{read_representation};
 ghost use Rattle.short_forms.specs.Short.{short_length, short_index_at, short_literal_at, short_named_at};
 
-use blocks::read::{INDEXED, RepresentationPlace, RepresentationRead, flag_of, read_literal};
+use blocks::read::{INDEXED, RepresentationPlace, flag_of, read_literal};
+use integers::answer::Read;
 use integers::byte::wide;
-use integers::integer::{ShortInt, WireInt};
+use integers::integer::WireInt;
 use integers::number::TableIndex;
-use short_strings::short::{ShortString, short_string};
+use short_strings::short::short_string;
 use wire::name::NamePlace;
 use wire::text::StringPlace;
-
-// What looking for a short index finds: the index and the place after it, or that none stands there.
-#[derive(Drop)]
-pub enum ShortIndex {
-    Found(TableIndex, usize),
-    Other,
-}
-
-// The same of a string's length.
-#[derive(Drop)]
-enum ShortLength {
-    Of(usize),
-    Other,
-}
-
-// The same of a literal whose name is a string: the place after it.
-#[derive(Drop)]
-pub enum ShortLiteral {
-    Ends(usize),
-    Other,
-}
-
-// The same of a literal whose name is an entry's: the entry's index, the value and the place after it.
-#[derive(Drop)]
-pub enum ShortNamed {
-    Found(TableIndex, StringPlace, usize),
-    Other,
-}
 
 // The values of a name's index that its prefix has room for.
 const NAME_SPAN: u8 = 1 << WireInt::PREFIX6;
@@ -46,89 +19,88 @@ const NAME_SPAN: u8 = 1 << WireInt::PREFIX6;
 const LITERAL_BYTES: usize = 3;
 
 // The length of a string, if it takes this byte.
-fn short_length(b: u8) -> ShortLength
+fn short_length(b: u8) -> Option<usize>
     ensures { result ≡ short_length b }
 {
     let n = wide(b);
     if WireInt::ONES7 <= n {
-        return ShortLength::Other;
+        return None;
     }
-    ShortLength::Of(n as usize)
+    Some(n as usize)
 }
 
-// The indexed representation at the place `at`, if it takes one byte. Its prefix is taken apart here, since this is met most of all (docs/DECISIONS.md).
-pub fn short_index(s: &[u8], at: usize) -> ShortIndex
+// The index of the indexed representation at the place `at` and the place after it, if it takes one byte. Its prefix is taken apart here, since this is met
+// most of all (docs/DECISIONS.md).
+pub fn short_index(s: &[u8], at: usize) -> Option<(TableIndex, usize)>
     requires { (at < length s.now) × (128 ≤ get_or s.now at 0) }
     ensures { result ≡ short_index_at s.now at }
 {
     let value = wide(s[at] - INDEXED);
     if value == 0 {
-        return ShortIndex::Other;
+        return None;
     }
     if value == WireInt::ONES7 {
-        return ShortIndex::Other;
+        return None;
     }
-    ShortIndex::Found(TableIndex::new(value), at + 1)
+    Some((TableIndex::new(value), at + 1))
 }
 
-// The literal at the place `at`, if its name is a string. One test of the bytes that are left serves both of a string's, so `short_string` is not asked.
-pub fn short_literal(s: &[u8], at: usize) -> ShortLiteral
+// The place after the literal at the place `at`, if its name is a string. One test of the bytes that are left serves both of a string's, so `short_string` is not asked.
+pub fn short_literal(s: &[u8], at: usize) -> Option<usize>
     requires { at < length s.now }
     ensures { result ≡ short_literal_at s.now at }
 {
     if s[at] % NAME_SPAN != 0 {
-        return ShortLiteral::Other;
+        return None;
     }
     let left = s.len() - at;
     if left < LITERAL_BYTES {
-        return ShortLiteral::Other;
+        return None;
     }
-    let n = short_length(s[at + 1]);
-    let ShortLength::Of(name) = n else {
-        return ShortLiteral::Other;
+    let Some(name) = short_length(s[at + 1]) else {
+        return None;
     };
     if left - LITERAL_BYTES < name {
-        return ShortLiteral::Other;
+        return None;
     }
-    let v = short_length(s[at + 2 + name]);
-    let ShortLength::Of(value) = v else {
-        return ShortLiteral::Other;
+    let Some(value) = short_length(s[at + 2 + name]) else {
+        return None;
     };
     if left - LITERAL_BYTES - name < value {
-        return ShortLiteral::Other;
+        return None;
     }
-    ShortLiteral::Ends(at + LITERAL_BYTES + name + value)
+    Some(at + LITERAL_BYTES + name + value)
 }
 
-// The literal at the place `at`, if its name is an entry's.
-pub fn short_named(s: &[u8], at: usize) -> ShortNamed
+// The index, the value and the place after the literal at the place `at`, if its name is an entry's.
+pub fn short_named(s: &[u8], at: usize) -> Option<(TableIndex, StringPlace, usize)>
     ensures { result ≡ short_named_at s.now at }
 {
     let r = WireInt::short(s, at, WireInt::PREFIX6);
-    let ShortInt::Value(n, after) = r else {
-        return ShortNamed::Other;
+    let Some((n, after)) = r else {
+        return None;
     };
     let value = n.value;
     if value == 0 {
-        return ShortNamed::Other;
+        return None;
     }
     let v = short_string(s, after);
-    let ShortString::Found(place, next) = v else {
-        return ShortNamed::Other;
+    let Some((place, next)) = v else {
+        return None;
     };
-    ShortNamed::Found(TableIndex::new(value), place, next)
+    Some((TableIndex::new(value), place, next))
 }
 
 // The literal at the place `at`: the general reader, after a short one whose name is an entry's.
-pub fn read_literal_at(s: &[u8], at: usize) -> RepresentationRead
+pub fn read_literal_at(s: &[u8], at: usize) -> Read<RepresentationPlace>
     requires { (at < length s.now) × (get_or s.now at 0 < 128) }
     ensures { result ≡ read_representation s.now at }
 {
     let n = short_named(s, at);
-    let ShortNamed::Found(index, value, next) = n else {
+    let Some((index, value, next)) = n else {
         return read_literal(s, at);
     };
     let flag = flag_of(s[at]);
     let place = RepresentationPlace::Literal(flag, NamePlace::Index(index), value);
-    RepresentationRead::Found(place, next)
+    Ok((place, next))
 }

@@ -6,30 +6,24 @@ use integers::byte::wide;
 use integers::integer::WireInt;
 use wire::text::StringPlace;
 
-// What looking for a short string finds: its place and the place after it, or that none stands there.
-#[derive(Drop)]
-pub enum ShortString {
-    Found(StringPlace, usize),
-    Other,
-}
-
-// The string at the place `at`, if it is plain and its length takes one byte: then it is within every limit. Whoever reads many looks for these first.
-pub fn short_string(s: &[u8], at: usize) -> ShortString
+// The string at the place `at` and the place after it, if it is plain and its length takes one byte: then it is within every limit. Whoever reads many
+// looks for these first.
+pub fn short_string(s: &[u8], at: usize) -> Option<(StringPlace, usize)>
     ensures { result ≡ short_string_at s.now at }
 {
     if s.len() <= at {
-        return ShortString::Other;
+        return None;
     }
     let length = wide(s[at]);
     if WireInt::ONES7 <= length {
-        return ShortString::Other;
+        return None;
     }
     let size = length as usize;
     let start = at + 1;
     let left = s.len() - start;
     if left < size {
-        return ShortString::Other;
+        return None;
     }
     let next = start + size;
-    ShortString::Found(StringPlace::plain(start, size), next)
+    Some((StringPlace::plain(start, size), next))
 }

@@ -4,8 +4,10 @@
 ghost use Rattle.std.specs.Prelude.{◌≡◌, true, ℕ, ◌≤◌};
 ghost use Rattle.wire.specs.Text.{InString};
 ghost use Rattle.stream_lists.specs.StreamList.{horizon_limit};
+ghost use Rattle.show.specs.Answers.{judged_number};
 
-use stream_lists::stream_list::{DeltaRead, HORIZON_LIMIT, ListPlace, read_delta};
+use integers::answer::{DONE, Refusal};
+use stream_lists::stream_list::{HORIZON_LIMIT, ListPlace, read_delta};
 use unpacking::unpack::unpacked_size;
 use wire::name::NamePlace;
 use wire::text::StringPlace;
@@ -29,16 +31,30 @@ pub fn refusal(n: u8) {
     number(b"answer ", n as u64);
 }
 
+pub fn because(why: Refusal) {
+    refusal(why.number());
+}
+
+// The number of the answer to what is only judged.
+fn judged_number(r: Result<(), Refusal>) -> u8
+    ensures { result ≡ judged_number r }
+{
+    r.map_or_else(Refusal::number, |()| DONE)
+}
+
+// The answer to what is only judged.
+pub fn judged(r: Result<(), Refusal>) {
+    refusal(judged_number(r));
+}
+
 pub fn next(n: usize) {
     number(b" next ", n as u64);
 }
 
 // Bytes in hexadecimal.
 pub fn bytes(s: &[u8]) {
-    let mut i: usize = 0;
-    while i < s.len() {
-        io::print_hex(1, s[i] as u64, 2);
-        i += 1;
+    for &b in s {
+        io::print_hex(1, b as u64, 2);
     }
 }
 
@@ -107,7 +123,7 @@ fn streams(s: &[u8], place: ListPlace)
     let count = place.count;
     for _ in 0..count {
         let r = read_delta(s, at, last);
-        let DeltaRead::Stream(stream, after) = r else {
+        let Ok((stream, after)) = r else {
             return;
         };
         last = stream.value as u32;

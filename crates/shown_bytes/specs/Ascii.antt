@@ -1,11 +1,11 @@
 -- Characters.
-use Rattle.std.specs.Prelude.{ℕ, Bool, true, false, List, [], ◌∷◌, leb}
+use Rattle.std.specs.Prelude.{ℕ, Bool, false, List, leb}
+use Rattle.std.specs.List.{list_all}
 use Rattle.memory.specs.Choice.{pick}
 
 -- "printable ASCII (20 to 7E)"
 unfoldable pub printable : ℕ → Bool
 printable c = pick (leb 32 c) (leb c 126) false
 
-unfoldable pub all_printable : List ℕ → Bool
-all_printable [] = true
-all_printable (c ∷ cs) = pick (printable c) (all_printable cs) false
+abbrev pub all_printable : List ℕ → Bool
+all_printable cs = list_all printable cs

@@ -4,6 +4,8 @@ use Rattle.memory.specs.Choice.{pick}
 use Rattle.shown_bytes.specs.Ascii.{printable}
 use Rattle.shown_bytes.specs.declared.shown.Place.{Place}
 use Rattle.shown_bytes.specs.declared.shown.Place.TheVariants.{Name, Edge, Inside}
+use Rattle.shown_bytes.specs.declared.shown.Shown.{Shown}
+use Rattle.shown_bytes.specs.declared.shown.Shown.TheVariants.{Plain, Escaped}
 
 -- is c one of these?
 unfoldable pub one_of : List ℕ → ℕ → Bool
@@ -34,6 +36,11 @@ hex_digit d = pick (ltb d 10) (48 + d) (87 + d)
 -- as it is, or as `\x` and two hexadecimal digits
 unfoldable pub shown_byte : Place → ℕ → List ℕ
 shown_byte place c = pick (plain place c) (c ∷ []) (92 ∷ 120 ∷ hex_digit (c / 16) ∷ hex_digit (c % 16) ∷ [])
+
+-- the bytes of what the code answers
+abbrev pub bytes_of : Shown → List ℕ
+bytes_of (Plain c) = c ∷ []
+bytes_of (Escaped bytes) = bytes
 
 unfoldable pub shown_name : List ℕ → List ℕ
 shown_name [] = []

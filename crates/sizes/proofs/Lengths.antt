@@ -66,13 +66,13 @@ pub insert-index-size : (i j : ℕ) (value : List ℕ)
     → length (instruction_wire (insert i (Name.indexed j) value)) ≡ insert_index_size i j (wire_size value)
 unfolding insert_index_size
 insert-index-size i j value =
-    omega (arith, insert-length i i refl (Name.indexed j) value, int-size 7 128 i, index-size 8 0 j, string-size value)
+    omega (arith, insert-length i (Name.indexed j) value, int-size 7 128 i, index-size 8 0 j, string-size value)
 
 pub insert-text-size : (i : ℕ) (name value : List ℕ)
     → length (instruction_wire (insert i (Name.literal name) value)) ≡ insert_text_size i (wire_size name) (wire_size value)
 unfolding insert_text_size
 insert-text-size i name value =
-    omega (arith, insert-length i i refl (Name.literal name) value, int-size 7 128 i, text-size 8 0 name (omega arith), string-size value)
+    omega (arith, insert-length i (Name.literal name) value, int-size 7 128 i, text-size 8 0 name (omega arith), string-size value)
 
 -- a list of no streams: its horizon, and the count 0
 empty-size : (h : ℕ) → length (list_wire h []) ≡ int_size 8 h + 1
@@ -82,10 +82,10 @@ empty-size h = omega (arith, list_length h [] h 0 refl refl, int-size 8 0 h, int
 pub delete-size : (i h t : ℕ)
     → length (instruction_wire (delete i (record { horizon = h; streams = [] }) (record { horizon = t; streams = [] }))) ≡ delete_size i h t
 unfolding delete_size
-delete-size i h t = omega (arith, delete-length i i refl h [] t [], int-size 6 0 i, empty-size h, empty-size t)
+delete-size i h t = omega (arith, delete-length i (record { horizon = h; streams = [] }) (record { horizon = t; streams = [] }), int-size 6 0 i, empty-size h, empty-size t)
 
 pub acknowledge-size : (i : ℕ) → length (instruction_wire (acknowledge i)) ≡ int_size 6 i
-acknowledge-size i = ap length (acknowledge-wire i i refl) ∙ int-size 6 64 i
+acknowledge-size i = ap length (acknowledge-wire i) ∙ int-size 6 64 i
 
 pub indexed-size : (i : ℕ) → length (representation_wire (indexed i)) ≡ int_size 7 i
 indexed-size i = ap length (indexed-wire i) ∙ int-size 7 128 i

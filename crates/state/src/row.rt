@@ -82,7 +82,8 @@ pub fn value_length_at(m: &[u8], i: usize) -> u16
     offset_at(m, i + 1) - offset_at(m, i) - name_length_at(m, i)
 }
 
-// At the decoder 0, or the place of the entry's delete and one; at the encoder 1 where the entry is under deletion, else 0.
+// At the decoder 0, or the place of the entry's delete and one; at the encoder 1 where the entry is under deletion, else 0. A number, and no enum: the host's
+// memory has it so (docs/STATE.md).
 pub fn status_at(m: &[u8], i: usize) -> u16
     requires { (i < 128) × (text_place ≤ length m.now) }
     ensures { result ≡ status_at m.now i }

@@ -37,11 +37,9 @@ fn live_rows(m: &[u8], count: usize) -> bool
     ensures { result ≡ each (λ i. text_ok m.now i && status_at m.now i == 0) count 0 }
 {
     let mut ok = true;
-    let mut i: usize = 0;
-    while i < count {
+    for i in 0..count {
         let text = text_ok(offset_at(m, i), offset_at(m, i + 1), name_length_at(m, i));
         ok = ok & (text & (status_at(m, i) == 0));
-        i += 1;
     }
     ok
 }
@@ -52,10 +50,8 @@ fn texts(m: &[u8], count: usize) -> bool
     ensures { result ≡ each (text_ok m.now) count 0 }
 {
     let mut ok = true;
-    let mut i: usize = 0;
-    while i < count {
+    for i in 0..count {
         ok = ok & text_ok(offset_at(m, i), offset_at(m, i + 1), name_length_at(m, i));
-        i += 1;
     }
     ok
 }
@@ -66,15 +62,13 @@ fn statuses_ok(m: &[u8], count: usize) -> bool
     ensures { result ≡ (each (status_ok m.now) count 0 && (pointing m.now count 0) == delete_count m.now) }
 {
     let mut pointed: usize = 0;
-    let mut i: usize = 0;
-    while i < count {
+    for i in 0..count {
         if !status_ok(m, i) {
             return false;
         }
         if status_at(m, i) != 0 {
             pointed += 1;
         }
-        i += 1;
     }
     pointed == (delete_count(m) as usize)
 }
@@ -99,8 +93,7 @@ fn streams_ok(m: &[u8], k: usize, at: usize, last: u16) -> bool
     ensures { result ≡ streams_ok m.now k at last }
 {
     let mut before = last;
-    let mut i: usize = 0;
-    while i < k {
+    for i in 0..k {
         let stream = listed_at(m, at, i);
         if stream <= before {
             return false;
@@ -109,7 +102,6 @@ fn streams_ok(m: &[u8], k: usize, at: usize, last: u16) -> bool
             return false;
         }
         before = stream;
-        i += 1;
     }
     true
 }
@@ -148,15 +140,13 @@ fn deletes_ok(m: &[u8]) -> bool
     ensures { result ≡ deletes_ok m.now (delete_count m.now) 0 }
 {
     let n = delete_count(m) as usize;
-    let mut k: usize = 0;
-    while k < n {
+    for k in 0..n {
         if !list_ok(m, nontrailer_list(k)) {
             return false;
         }
         if !list_ok(m, trailer_list(k)) {
             return false;
         }
-        k += 1;
     }
     true
 }

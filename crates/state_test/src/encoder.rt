@@ -26,11 +26,9 @@ fn rows_form(m: &[u8], count: usize) -> bool
     ensures { result ≡ each (λ i. text_ok m.now i && reference_ok m.now i) count 0 }
 {
     let mut ok = true;
-    let mut i: usize = 0;
-    while i < count {
+    for i in 0..count {
         let text = text_ok(offset_at(m, i), offset_at(m, i + 1), name_length_at(m, i));
         ok = ok & (text & reference_ok(m, i));
-        i += 1;
     }
     ok
 }

@@ -40,10 +40,8 @@ fn rising(m: &[u8], count: usize) -> bool
     ensures { result ≡ each (index_ok m.now) count 0 }
 {
     let mut ok = true;
-    let mut i: usize = 0;
-    while i < count {
+    for i in 0..count {
         ok = ok & (index_before(m, i) < index_at(m, i));
-        i += 1;
     }
     ok
 }

@@ -14,8 +14,6 @@ use Rattle.statics.specs.Table.{static_name}
 use Rattle.static_search.specs.Search.{has_name, has_both, lowest_static, lowest_name, lowest_both, find_name, find_both}
 use Rattle.static_search.specs.Hash.{candidate_of, last_of}
 use Rattle.static_search.specs.Compared.{indexes_from, candidates, compared_name, with_run, compared_both}
-use Rattle.static_search.specs.declared.search.StaticFound.{StaticFound}
-use Rattle.static_search.specs.declared.search.StaticFound.TheVariants.{At, Nothing}
 use Rattle.static_search.proofs.Finding.{has-name, has_both_lem, name-first, start-nothing}
 use Rattle.static_search.proofs.Hashing.{candidate-none, candidate-fits, candidate-not, candidate-has}
 use Rattle.static_search.proofs.Runs.{named, last-high, run-over, run-start}
@@ -23,6 +21,7 @@ use Rattle.static_lengths.specs.Lengths.{of_length, first_of}
 use Rattle.static_lengths.specs.Claim.{Within}
 use Rattle.static_lengths.proofs.Selecting.{first-all, from-length, from_in, first-from, enough}
 use Rattle.static_lengths.proofs.Few.{exactly}
+use Rattle.std.specs.Prelude.{Option, Some, None}
 
 -- ---- nothing is lost by looking at names of the right length alone
 
@@ -45,9 +44,9 @@ pub name_one : (name : List ℕ) → length (compared_name name) ≤ 1
 unfolding compared_name
 name_one name = go (candidate_of name)
   where
-    go : (o : StaticFound) → length (candidates o) ≤ 1
-    go (At j) = omega arith
-    go Nothing = omega arith
+    go : (o : Option TableIndex) → length (candidates o) ≤ 1
+    go (Some j) = omega arith
+    go None = omega arith
 
 -- an entry's run begins with it and has at most seven
 abbrev Run : ℕ → ℕ → Type 0
@@ -65,15 +64,15 @@ pub both_seven : (name : List ℕ) → length (compared_both name) ≤ 7
 unfolding compared_both
 both_seven name = go (candidate_of name)
   where
-    go : (o : StaticFound) → length (with_run name o) ≤ 7
-    go (At j) =
+    go : (o : Option TableIndex) → length (with_run name o) ≤ 7
+    go (Some j) =
         pick-both (λ (l : List ℕ). length l ≤ 7) (has_name j.value name) _ _
         (λ t. omega (arith, from-length (suc (last_of j.value) - j.value) j.value, (run-seven j.value).1)) (λ t. omega arith)
-    go Nothing = omega arith
+    go None = omega arith
 
 -- ---- which
 
-module _ (name : List ℕ) (i : TableIndex) (c : candidate_of name ≡ At i) where
+module _ (name : List ℕ) (i : TableIndex) (c : candidate_of name ≡ Some i) where
   right : Memᴰ i.value (of_length (length name))
   right = (exactly (length name) i.value).1 (candidate-fits name i c)
 
@@ -81,7 +80,7 @@ module _ (name : List ℕ) (i : TableIndex) (c : candidate_of name ≡ At i) whe
   one_right k m = subst (λ (x : ℕ). Memᴰ x (of_length (length name))) (sym (Memᴰ.eq_of_singleton m)) right
 
   module _ (t : has_name i.value name ≡ true) where
-    abbrev here : (1 ≤ i.value) × (i.value ≤ 61) × (find_name (static_name i.value) ≡ At i)
+    abbrev here : (1 ≤ i.value) × (i.value ≤ 61) × (find_name (static_name i.value) ≡ Some i)
     here = name-first name i (sym (candidate-has name i c t))
 
     is_name : static_name i.value ≡ name
@@ -121,40 +120,40 @@ pub name_within : (name : List ℕ) → Within (compared_name name) (of_length (
 unfolding compared_name
 name_within name = go (candidate_of name) refl
   where
-    go : (o : StaticFound) → candidate_of name ≡ o → Within (candidates o) (of_length (length name))
-    go (At i) e = one_right name i e
-    go Nothing e = λ k m. absurd (Memᴰ.not-nil m)
+    go : (o : Option TableIndex) → candidate_of name ≡ o → Within (candidates o) (of_length (length name))
+    go (Some i) e = one_right name i e
+    go None e = λ k m. absurd (Memᴰ.not-nil m)
 
 pub both_within : (name : List ℕ) → Within (compared_both name) (of_length (length name))
 unfolding compared_both
 both_within name = go (candidate_of name) refl
   where
-    go : (o : StaticFound) → candidate_of name ≡ o → Within (with_run name o) (of_length (length name))
-    go (At i) e =
+    go : (o : Option TableIndex) → candidate_of name ≡ o → Within (with_run name o) (of_length (length name))
+    go (Some i) e =
         pick-both (λ (l : List ℕ). Within l (of_length (length name))) (has_name i.value name) _ _ (run-right name i e) (λ t. one_right name i e)
-    go Nothing e = λ k m. absurd (Memᴰ.not-nil m)
+    go None e = λ k m. absurd (Memᴰ.not-nil m)
 
 pub name_compared : (name : List ℕ) → find_name name ≡ first_of (λ k. has_name k name) (compared_name name)
 unfolding compared_name first_of
 name_compared name = go (candidate_of name) refl
   where
-    go : (o : StaticFound) → candidate_of name ≡ o → find_name name ≡ first_of (λ k. has_name k name) (candidates o)
-    go (At i) e =
+    go : (o : Option TableIndex) → candidate_of name ≡ o → find_name name ≡ first_of (λ k. has_name k name) (candidates o)
+    go (Some i) e =
         either (has_name i.value name)
         (λ t. sym (candidate-has name i e t) ∙ sym (pick_true _ _ _ t))
         (λ t. sym (candidate-not name i e t) ∙ sym (pick-false _ _ _ t))
-    go Nothing e = sym (candidate-none name e)
+    go None e = sym (candidate-none name e)
 
 pub both_compared : (name value : List ℕ) → find_both name value ≡ first_of (λ k. has_both k name value) (compared_both name)
 unfolding compared_both first_of has_both
 both_compared name value = go (candidate_of name) refl
   where
-    unlike : (i : TableIndex) → has_name i.value name ≡ false → Nothing ≡ first_of (λ k. has_both k name value) (i.value ∷ [])
+    unlike : (i : TableIndex) → has_name i.value name ≡ false → None ≡ first_of (λ k. has_both k name value) (i.value ∷ [])
     unlike i t = sym (pick-false _ _ _ (pick-false _ _ _ t))
 
-    go : (o : StaticFound) → candidate_of name ≡ o → find_both name value ≡ first_of (λ k. has_both k name value) (with_run name o)
-    go (At i) e =
+    go : (o : Option TableIndex) → candidate_of name ≡ o → find_both name value ≡ first_of (λ k. has_both k name value) (with_run name o)
+    go (Some i) e =
         pick-both (λ (l : List ℕ). find_both name value ≡ first_of (λ k. has_both k name value) l) (has_name i.value name) _ _
         (λ t. run-finds name i e t value)
         (λ t. start-nothing name value (sym (candidate-not name i e t)) ∙ unlike i t)
-    go Nothing e = start-nothing name value (sym (candidate-none name e))
+    go None e = start-nothing name value (sym (candidate-none name e))

@@ -11,9 +11,9 @@ use Rattle.memory.specs.Choice.{pick}
 use Rattle.memory.proofs.Order.{split, either, not-both}
 use Rattle.static_search.specs.Search.{lowest_static}
 use Rattle.static_search.specs.Compared.{indexes_from}
-use Rattle.static_search.specs.declared.search.StaticFound.TheVariants.{At, Nothing}
 use Rattle.static_search.proofs.Finding.{lowest-next}
 use Rattle.static_lengths.specs.Lengths.{before, all_static, first_of}
+use Rattle.std.specs.Prelude.{Some, None}
 
 abbrev Between : (ℕ → Bool) → ℕ → ℕ → ℕ → Type 0
 Between f n i k = (i ≤ k) × (k < i + n) × (f k ≡ true)
@@ -55,7 +55,7 @@ module _ (f : ℕ → Bool) where
     first-all zero i = refl
     first-all (suc n) i =
         either (f i)
-        (λ t. ap (pick (g i) (At (record { value = i }))) (first-all n (i + 1)) ∙ sym (ap (first_of g) (all_here n i t)))
+        (λ t. ap (pick (g i) (Some (record { value = i }))) (first-all n (i + 1)) ∙ sym (ap (first_of g) (all_here n i t)))
         (λ t. lowest-next g n i (either (g i) (λ u. absurd (not-both (f i) (only i u) t)) (λ u. u))
         ∙ first-all n (i + 1) ∙ sym (ap (first_of g) (all-next n i t)))
 
@@ -77,12 +77,12 @@ module _ (g : ℕ → Bool) where
   pub first-from : (n i : ℕ) → lowest_static g n i ≡ first_of g (indexes_from n i)
   unfolding lowest_static first_of indexes_from
   first-from zero i = refl
-  first-from (suc n) i = ap (pick (g i) (At (record { value = i }))) (first-from n (i + 1))
+  first-from (suc n) i = ap (pick (g i) (Some (record { value = i }))) (first-from n (i + 1))
 
   -- where nothing is found behind m indexes, these are enough
-  pub enough : (m n i : ℕ) → lowest_static g n (i + m) ≡ Nothing → lowest_static g (m + n) i ≡ lowest_static g m i
+  pub enough : (m n i : ℕ) → lowest_static g n (i + m) ≡ None → lowest_static g (m + n) i ≡ lowest_static g m i
   unfolding lowest_static
   enough zero n i e = rw (zero-add n) (rw (add-zero i) at e)
   enough (suc m) n i e =
       let d : i + suc m ≡ i + 1 + m = omega arith in
-      rw (suc-add m n) (ap (pick (g i) (At (record { value = i }))) (enough m n (i + 1) (rw d at e)))
+      rw (suc-add m n) (ap (pick (g i) (Some (record { value = i }))) (enough m n (i + 1) (rw d at e)))

@@ -2,8 +2,8 @@
 use Rattle.std.specs.Prelude.{ℕ, zero, suc, ◌+◌, Bool, true, false, List, [], ◌∷◌, length, eqb}
 use Rattle.memory.specs.Choice.{pick}
 use Rattle.statics.specs.Table.{last_static, static_name}
-use Rattle.static_search.specs.declared.search.StaticFound.{StaticFound}
-use Rattle.static_search.specs.declared.search.StaticFound.TheVariants.{At, Nothing}
+use Rattle.std.specs.Prelude.{Option, Some, None}
+use Rattle.integers.specs.declared.number.TableIndex.{TableIndex}
 
 -- the indexes at which the test holds, of the n from i on
 abbrev pub before : Bool → ℕ → List ℕ → List ℕ
@@ -19,9 +19,9 @@ unfoldable pub of_length : ℕ → List ℕ
 of_length n = all_static (λ k. eqb (length (static_name k)) n) last_static 1
 
 -- the first of these indexes at which the test holds
-unfoldable pub first_of : (ℕ → Bool) → List ℕ → StaticFound
-first_of holds [] = Nothing
-first_of holds (i ∷ is) = pick (holds i) (At (record { value = i })) (first_of holds is)
+unfoldable pub first_of : (ℕ → Bool) → List ℕ → Option TableIndex
+first_of holds [] = None
+first_of holds (i ∷ is) = pick (holds i) (Some (record { value = i })) (first_of holds is)
 
 -- "at most 14 for any name"
 abbrev pub most : ℕ

@@ -6,42 +6,29 @@ ghost use Rattle.statics.specs.Table.{last_static, static_name};
 ghost use Rattle.static_search.specs.Search.{has_name, find_name, find_both};
 ghost use Rattle.static_search.specs.Hash.{candidate_of, has_value, last_of, may_be_value};
 ghost use Rattle.static_search.specs.Compared.{compared_name, compared_both};
-ghost use Rattle.static_search.specs.Ends.{same_ends};
 
 use integers::number::TableIndex;
 use memory::compare::same;
-use static_search::ends::{Ends, ends_of, name_ends, value_ends};
+use static_search::ends::{ends_of, name_ends, value_ends};
 use static_search::hashes::{hashed_entry, name_hash};
-use static_search::search::StaticFound;
 use statics::table::{static_place, static_text};
 
 // The most bytes that two words tell.
 const TWO_WORDS: usize = 16;
 
-// Do both ends agree?
-#[tactic(auto, unfolding(static_search::specs::Ends::same_ends))]
-fn same_ends(a: Ends, b: Ends) -> bool
-    ensures { result ≡ same_ends a b }
-{
-    if a.first != b.first {
-        return false;
-    }
-    a.last == b.last
-}
-
 // The one entry that may have this name: that which the hash leaves, where its name has as many bytes.
-fn candidate(name: &[u8]) -> StaticFound
+fn candidate(name: &[u8]) -> Option<TableIndex>
     ensures { result ≡ candidate_of name.now }
 {
     if name.len() == 0 {
-        return StaticFound::Nothing;
+        return None;
     }
     let hashed = hashed_entry(name_hash(name));
     let index = hashed.index;
     if hashed.length == name.len() {
-        return StaticFound::At(index);
+        return Some(index);
     }
-    StaticFound::Nothing
+    None
 }
 
 // Has this entry this name? Bytes of a name are compared here alone, so of the candidate alone. The static text is laid on the stack where it is made, so
@@ -52,7 +39,7 @@ fn has_name(index: TableIndex, name: &[u8]) -> bool
 {
     let n = name.len();
     if n <= TWO_WORDS {
-        return same_ends(name_ends(index), ends_of(name));
+        return name_ends(index) == ends_of(name);
     }
     let text = static_text();
     same(&text, static_place(index).start as usize, name, 0, n)
@@ -71,21 +58,21 @@ fn has_value(first: TableIndex, behind: u32, value: &[u8]) -> bool
     if n != value.len() {
         return false;
     }
-    same_ends(value_ends(index), ends_of(value))
+    value_ends(index) == ends_of(value)
 }
 
 // The lowest index of an entry with this name.
-pub fn find_name(name: &[u8]) -> StaticFound
+pub fn find_name(name: &[u8]) -> Option<TableIndex>
     ensures { result ≡ find_name name.now }
 {
     let left = candidate(name);
-    let StaticFound::At(index) = left else {
-        return StaticFound::Nothing;
+    let Some(index) = left else {
+        return None;
     };
     if !has_name(index, name) {
-        return StaticFound::Nothing;
+        return None;
     }
-    StaticFound::At(index)
+    Some(index)
 }
 
 // The last entry with the name of this one, which is the lowest with it: only four names occur more than once.
@@ -104,19 +91,17 @@ fn last_of(index: TableIndex) -> TableIndex
 }
 
 // The lowest entry with this value and with the name of `first`, which is the lowest with it.
-fn find_value(first: TableIndex, value: &[u8]) -> StaticFound
-    requires { (1 ≤ first.value) × (first.value ≤ last_static) × (find_name (static_name first.value) ≡ StaticFound.At first) }
+fn find_value(first: TableIndex, value: &[u8]) -> Option<TableIndex>
+    requires { (1 ≤ first.value) × (first.value ≤ last_static) × (find_name (static_name first.value) ≡ Some first) }
     ensures { result ≡ find_both (static_name first.value) value.now }
 {
     let last = last_of(first);
-    let mut i: u32 = first.value;
-    while i <= last.value {
+    for i in first.value..last.value + 1 {
         if has_value(first, i - first.value, value) {
-            return StaticFound::At(TableIndex::new(i));
+            return Some(TableIndex::new(i));
         }
-        i += 1;
     }
-    StaticFound::Nothing
+    None
 }
 
 // May a static entry have this value? Length and first byte tell, so that most values need no search.
@@ -146,14 +131,14 @@ fn may_be_value(value: &[u8]) -> bool
 }
 
 // The lowest entry with this name and this value.
-pub fn find_both(name: &[u8], value: &[u8]) -> StaticFound
+pub fn find_both(name: &[u8], value: &[u8]) -> Option<TableIndex>
     ensures { result ≡ find_both name.now value.now }
 {
     if !may_be_value(value) {
-        return StaticFound::Nothing;
+        return None;
     }
     match find_name(name) {
-        StaticFound::At(i) => find_value(i, value),
-        StaticFound::Nothing => StaticFound::Nothing,
+        Some(i) => find_value(i, value),
+        None => None,
     }
 }

@@ -12,12 +12,11 @@ use Rattle.statics.specs.Table.{static_name}
 use Rattle.static_search.specs.Search.{has_name, find_name}
 use Rattle.static_search.specs.Hash.{candidate_of, last_of}
 use Rattle.static_search.specs.Compared.{indexes_from, candidates, compared_name, compared_both}
-use Rattle.static_search.specs.declared.search.StaticFound.{StaticFound}
-use Rattle.static_search.specs.declared.search.StaticFound.TheVariants.{At, Nothing}
 use Rattle.static_search.proofs.Finding.{name-has}
 use Rattle.static_search.proofs.Hashing.{candidate-fits, found-candidate}
+use Rattle.std.specs.Prelude.{Option, Some, None}
 
-pub candidate-compared : (name : List ℕ) (i : TableIndex) → candidate_of name ≡ At i → Memᴰ i.value (compared_name name)
+pub candidate-compared : (name : List ℕ) (i : TableIndex) → candidate_of name ≡ Some i → Memᴰ i.value (compared_name name)
 unfolding compared_name
 candidate-compared name i e = rw e (Memᴰ.head refl)
 
@@ -25,10 +24,10 @@ pub compared-fits : (name : List ℕ) (i : ℕ) → Memᴰ i (compared_name name
 unfolding compared_name
 compared-fits name i = go (candidate_of name) refl
   where
-    go : (o : StaticFound) → candidate_of name ≡ o → Memᴰ i (candidates o) → (1 ≤ i) × (i ≤ 61) × (length (static_name i) ≡ length name)
-    go (At j) e m =
+    go : (o : Option TableIndex) → candidate_of name ≡ o → Memᴰ i (candidates o) → (1 ≤ i) × (i ≤ 61) × (length (static_name i) ≡ length name)
+    go (Some j) e m =
         subst (λ (k : ℕ). (1 ≤ k) × (k ≤ 61) × (length (static_name k) ≡ length name)) (sym (Memᴰ.eq_of_singleton m)) (candidate-fits name j e)
-    go Nothing e m = absurd (Memᴰ.not-nil m)
+    go None e m = absurd (Memᴰ.not-nil m)
 
 -- ---- the run of an entry
 
@@ -38,7 +37,7 @@ in-from zero i k h = absurd (omega arith)
 in-from (suc n) i zero h = Memᴰ.head (add-zero i)
 in-from (suc n) i (suc k) h = let e : i + suc k ≡ i + 1 + k = omega arith in Memᴰ.tail (subst (λ (j : ℕ). Memᴰ j (indexes_from n (i + 1))) (sym e) (in-from n (i + 1) k (omega arith)))
 
-pub run-compared : (first : TableIndex) → find_name (static_name first.value) ≡ At first → (k : ℕ) → first.value + k ≤ last_of first.value
+pub run-compared : (first : TableIndex) → find_name (static_name first.value) ≡ Some first → (k : ℕ) → first.value + k ≤ last_of first.value
     → Memᴰ (first.value + k) (compared_both (static_name first.value))
 unfolding compared_both
 run-compared first here k h =

@@ -14,32 +14,31 @@ use Rattle.integers.specs.declared.number.TableIndex.{TableIndex}
 use Rattle.statics.specs.Table.{Entry, entries, entry_at, static_name}
 use Rattle.static_search.specs.Search.{has_name, lowest_static, lowest_name, find_name}
 use Rattle.static_search.specs.Hash.{hash_of, hashed_at, hashed_of, candidate_of, stored_of}
-use Rattle.static_search.specs.declared.search.StaticFound.{StaticFound}
-use Rattle.static_search.specs.declared.search.StaticFound.TheVariants.{At, Nothing}
 use Rattle.statics.proofs.Arms.{NoneIn, among, not-among}
 use Rattle.statics.proofs.Places.{every, every_in}
 use Rattle.static_search.proofs.Finding.{is_at, found, has-name, name-has, name-found, name-nothing}
+use Rattle.std.specs.Prelude.{Option, Some, None}
 
 module _ (hash : ℕ) where
-  abbrev left : StaticFound
+  abbrev left : Option TableIndex
   left = lowest_static (λ k. eqb (hash_of (static_name k)) hash) 61 1
 
   pub hash-within : (1 ≤ (hashed_of hash).index.value) × ((hashed_of hash).index.value ≤ 61)
   unfolding hashed_of
   hash-within = go left refl
     where
-      go : (o : StaticFound) → left ≡ o → (1 ≤ (hashed_at o).index.value) × ((hashed_at o).index.value ≤ 61)
-      go (At j) e = let l = found (λ k. eqb (hash_of (static_name k)) hash) 61 1 j e in (l.low, omega (arith, l.high))
-      go Nothing e = (omega arith, omega arith)
+      go : (o : Option TableIndex) → left ≡ o → (1 ≤ (hashed_at o).index.value) × ((hashed_at o).index.value ≤ 61)
+      go (Some j) e = let l = found (λ k. eqb (hash_of (static_name k)) hash) 61 1 j e in (l.low, omega (arith, l.high))
+      go None e = (omega arith, omega arith)
 
   -- a length that is not 0 is that of the entry's name
   hash-named : (n : ℕ) → 1 ≤ n → (hashed_of hash).length ≡ n → length (static_name (hashed_of hash).index.value) ≡ n
   unfolding hashed_of
   hash-named n h = go left
     where
-      go : (o : StaticFound) → (hashed_at o).length ≡ n → length (static_name (hashed_at o).index.value) ≡ n
-      go (At j) e = e
-      go Nothing e = absurd (omega arith)
+      go : (o : Option TableIndex) → (hashed_at o).length ≡ n → length (static_name (hashed_at o).index.value) ≡ n
+      go (Some j) e = e
+      go None e = absurd (omega arith)
 
   -- the two parts of the number
   pub hash-parts : (s : ℕ) → s ≡ stored_of hash → (s % 256 ≡ (hashed_of hash).index.value) × (s / 256 ≡ (hashed_of hash).length)
@@ -48,14 +47,14 @@ module _ (hash : ℕ) where
 
 -- ---- the computed test: each entry's name is found at its candidate
 
-abbrev agreed : StaticFound → StaticFound → Bool
-agreed (At i) o = is_at o i.value
-agreed Nothing o = false
+abbrev agreed : Option TableIndex → Option TableIndex → Bool
+agreed (Some i) o = is_at o i.value
+agreed None o = false
 
-agreed-eq : (c o : StaticFound) → T (agreed c o) → c ≡ o
-agreed-eq (At i) (At j) t = sym (ap (λ (k : ℕ). At (record { value = k })) (eqb→eq j.value i.value t))
-agreed-eq (At i) Nothing t = absurd t
-agreed-eq Nothing o t = absurd t
+agreed-eq : (c o : Option TableIndex) → T (agreed c o) → c ≡ o
+agreed-eq (Some i) (Some j) t = sym (ap (λ (k : ℕ). Some (record { value = k })) (eqb→eq j.value i.value t))
+agreed-eq (Some i) None t = absurd t
+agreed-eq None o t = absurd t
 
 abbrev tested : Entry → Bool
 tested e = agreed (candidate_of e.name) (find_name e.name)
@@ -72,34 +71,34 @@ entry-candidate k lo hi = agreed-eq (candidate_of (static_name k)) (find_name (s
 
 module _ (name : List ℕ) where
   -- an entry that is found is the candidate
-  pub found-candidate : (j : TableIndex) → find_name name ≡ At j → candidate_of name ≡ At j
+  pub found-candidate : (j : TableIndex) → find_name name ≡ Some j → candidate_of name ≡ Some j
   found-candidate j e =
       let l = name-found name 61 1 j e in
       (rw l.holds at (entry-candidate j.value l.low (omega (arith, l.high)))) ∙ e
 
-  pub candidate-empty : length name ≡ 0 → Nothing ≡ candidate_of name
+  pub candidate-empty : length name ≡ 0 → None ≡ candidate_of name
   unfolding candidate_of
-  candidate-empty e = sym (pick_true (eqb (length name) 0) Nothing _ (eq-eqb (length name) 0 e))
+  candidate-empty e = sym (pick_true (eqb (length name) 0) None _ (eq-eqb (length name) 0 e))
 
   module _ (some : length name ≡ 0 → ⊥) where
-    candidate-hashed : candidate_of name ≡ pick (eqb (hashed_of (hash_of name)).length (length name)) (At (hashed_of (hash_of name)).index) Nothing
+    candidate-hashed : candidate_of name ≡ pick (eqb (hashed_of (hash_of name)).length (length name)) (Some (hashed_of (hash_of name)).index) None
     unfolding candidate_of
-    candidate-hashed = pick-false (eqb (length name) 0) Nothing _ (ne_eqb (length name) 0 some)
+    candidate-hashed = pick-false (eqb (length name) 0) None _ (ne_eqb (length name) 0 some)
 
-    pub candidate-other : ((hashed_of (hash_of name)).length ≡ length name → ⊥) → Nothing ≡ candidate_of name
+    pub candidate-other : ((hashed_of (hash_of name)).length ≡ length name → ⊥) → None ≡ candidate_of name
     candidate-other f = sym (candidate-hashed ∙ pick-false _ _ _ (ne_eqb (hashed_of (hash_of name)).length (length name) f))
 
-    pub candidate-here : (hashed_of (hash_of name)).length ≡ length name → At (hashed_of (hash_of name)).index ≡ candidate_of name
+    pub candidate-here : (hashed_of (hash_of name)).length ≡ length name → Some (hashed_of (hash_of name)).index ≡ candidate_of name
     candidate-here e = sym (candidate-hashed ∙ pick_true _ _ _ (eq-eqb (hashed_of (hash_of name)).length (length name) e))
 
-  pub candidate-none : candidate_of name ≡ Nothing → Nothing ≡ find_name name
+  pub candidate-none : candidate_of name ≡ None → None ≡ find_name name
   candidate-none c = go (find_name name) refl
     where
-      go : (o : StaticFound) → find_name name ≡ o → Nothing ≡ o
-      go (At j) e = sym c ∙ found-candidate j e
-      go Nothing e = refl
+      go : (o : Option TableIndex) → find_name name ≡ o → None ≡ o
+      go (Some j) e = sym c ∙ found-candidate j e
+      go None e = refl
 
-  module _ (i : TableIndex) (c : candidate_of name ≡ At i) where
+  module _ (i : TableIndex) (c : candidate_of name ≡ Some i) where
     -- a candidate is an entry whose name has the right length
     pub candidate-fits : (1 ≤ i.value) × (i.value ≤ 61) × (length (static_name i.value) ≡ length name)
     candidate-fits =
@@ -108,32 +107,32 @@ module _ (name : List ℕ) where
         (λ z. let some = eqb-false (length name) 0 z in
         either (eqb (hashed_of (hash_of name)).length (length name))
         (λ h. let e = eqb-true _ _ h in
-        let same : At (hashed_of (hash_of name)).index ≡ At i = candidate-here some e ∙ c in
+        let same : Some (hashed_of (hash_of name)).index ≡ Some i = candidate-here some e ∙ c in
         let is : (hashed_of (hash_of name)).index ≡ i = cc in
         subst (λ (k : TableIndex). (1 ≤ k.value) × (k.value ≤ 61) × (length (static_name k.value) ≡ length name)) is
         ((hash-within (hash_of name)).0, (hash-within (hash_of name)).1, hash-named (hash_of name) (length name) (omega arith) e))
         (λ h. absurd (nothing-at (candidate-other some (eqb-false _ _ h) ∙ c))))
       where
-        nothing-at : Nothing ≡ At i → ⊥
+        nothing-at : None ≡ Some i → ⊥
         nothing-at d = let z : ◌≡◌ {A = ℕ} 0 1 = cc in omega arith
 
-    pub candidate-not : has_name i.value name ≡ false → Nothing ≡ find_name name
+    pub candidate-not : has_name i.value name ≡ false → None ≡ find_name name
     candidate-not t = go (find_name name) refl
       where
-        go : (o : StaticFound) → find_name name ≡ o → Nothing ≡ o
-        go (At j) e =
+        go : (o : Option TableIndex) → find_name name ≡ o → None ≡ o
+        go (Some j) e =
             let l = name-found name 61 1 j e in
-            let same : At i ≡ At j = sym c ∙ found-candidate j e in
+            let same : Some i ≡ Some j = sym c ∙ found-candidate j e in
             let at : j.value ≡ i.value = cc in
             absurd (not-both (has_name i.value name) (name-has name i.value (ap static_name (sym at) ∙ l.holds)) t)
-        go Nothing e = refl
+        go None e = refl
 
-    pub candidate-has : has_name i.value name ≡ true → At i ≡ find_name name
+    pub candidate-has : has_name i.value name ≡ true → Some i ≡ find_name name
     candidate-has t = go (find_name name) refl
       where
-        go : (o : StaticFound) → find_name name ≡ o → At i ≡ o
-        go (At j) e = sym c ∙ found-candidate j e
-        go Nothing e = absurd (name-nothing name 61 1 e i.value candidate-fits.0 (omega (arith, candidate-fits.1)) (has-name name i.value t))
+        go : (o : Option TableIndex) → find_name name ≡ o → Some i ≡ o
+        go (Some j) e = sym c ∙ found-candidate j e
+        go None e = absurd (name-nothing name 61 1 e i.value candidate-fits.0 (omega (arith, candidate-fits.1)) (has-name name i.value t))
 
 -- ---- the arms of the `match`: the hashes that occur, from the last arm to the first
 
@@ -150,9 +149,9 @@ pub hash-rest : (hash : ℕ) → NoneIn hashes hash → 1 ≡ stored_of hash
 unfolding stored_of hashed_of
 hash-rest hash n = go (left hash) refl
   where
-    go : (o : StaticFound) → left hash ≡ o → 1 ≡ 256 * (hashed_at o).length + (hashed_at o).index.value
-    go (At j) e =
+    go : (o : Option TableIndex) → left hash ≡ o → 1 ≡ 256 * (hashed_at o).length + (hashed_at o).index.value
+    go (Some j) e =
         let l = found (λ k. eqb (hash_of (static_name k)) hash) 61 1 j e in
         let same = eqb-true (hash_of (static_name j.value)) hash l.holds in
         absurd (not-among hashes hash n (subst (λ (h : ℕ). T (among hashes h)) same (entry-among j.value l.low (omega (arith, l.high)))))
-    go Nothing e = refl
+    go None e = refl

@@ -14,10 +14,9 @@ use Rattle.integers.specs.declared.number.TableIndex.{TableIndex}
 use Rattle.statics.specs.Table.{entries, entry_at, static_name, static_value}
 use Rattle.static_search.specs.Search.{has_name, has_both, lowest_static, lowest_name, lowest_both, find_name, find_both}
 use Rattle.static_search.specs.Hash.{last_of, has_value}
-use Rattle.static_search.specs.declared.search.StaticFound.{StaticFound}
-use Rattle.static_search.specs.declared.search.StaticFound.TheVariants.{At, Nothing}
 use Rattle.statics.proofs.Places.{both, both_left, both_right, below, below_at}
 use Rattle.static_search.proofs.Finding.{is_at, skip, name-has, has_both_lem, start-at}
+use Rattle.std.specs.Prelude.{Option, Some, None}
 
 -- ---- the run of an entry
 
@@ -40,7 +39,7 @@ runs-all : T (below runs 62)
 unfolding entries entry_at lowest_name lowest_static has_name same last_of
 runs-all = tt
 
-module _ (first : TableIndex) (lo : 1 ≤ first.value) (hi : first.value ≤ 61) (here : find_name (static_name first.value) ≡ At first) where
+module _ (first : TableIndex) (lo : 1 ≤ first.value) (hi : first.value ≤ 61) (here : find_name (static_name first.value) ≡ Some first) where
   abbrev a : ℕ
   a = first.value
 
@@ -49,7 +48,7 @@ module _ (first : TableIndex) (lo : 1 ≤ first.value) (hi : first.value ≤ 61)
 
   tested : T (both (leb (last_of a) 61) (below (λ d. agree (has_name (a + d) name) (leb (a + d) (last_of a))) (62 - a)))
   tested =
-      let is : is_at (find_name name) a ≡ true = ap (λ (o : StaticFound). is_at o a) here ∙ eq-eqb a a refl in
+      let is : is_at (find_name name) a ≡ true = ap (λ (o : Option TableIndex). is_at o a) here ∙ eq-eqb a a refl in
       subst T (pick_true (is_at (find_name name) a) _ true is) (below_at runs 62 a runs-all (omega arith))
 
   pub last-high : last_of a ≤ 61
@@ -68,7 +67,7 @@ module _ (first : TableIndex) (lo : 1 ≤ first.value) (hi : first.value ≤ 61)
         sym (pick_true (has_name k name) (same (static_value k) value) false (named k low (omega (arith, last-high)) ∙ le-leb k (last_of a) high))
 
     -- behind the run no entry has the name
-    pub run-over : (i : ℕ) → a ≤ i → last_of a < i → lowest_both (62 - i) i name value ≡ Nothing
+    pub run-over : (i : ℕ) → a ≤ i → last_of a < i → lowest_both (62 - i) i name value ≡ None
     unfolding lowest_both lowest_static
     run-over i low high =
         rw (add-zero (62 - i)) at

@@ -1,6 +1,6 @@
 -- At most 16 bytes compared by the words at their ends, which together are all of them. By the law of two words, with the width that the length gives.
 use mathlib.Core.Path.{◌≡◌, refl, sym, ap, ap₂, ◌∙◌}
-use mathlib.Core.Bool.{Bool, true, false}
+use mathlib.Core.Bool.{Bool, true, false, ◌&&◌}
 use Prim.Native.Nat.{ℕ, ◌+◌, ◌-◌, ◌≤◌, ◌<◌}
 use native.Mathlib.Nat.{zero-add}
 use native.Mathlib.Omega.{arith}
@@ -8,14 +8,15 @@ use mathlib.Core.List.{List}
 use lib.ListN.{length, get_or}
 use lib.Dec.{eqb, leb}
 use borrow.Author.Tests.{eqb-true, eq-eqb, leb-true, leb-false, le-leb, lt-leb}
+use Rattle.std.proofs.lemmas.Bool.{agree_below, agree_below_at}
 use Rattle.memory.specs.Choice.{pick}
 use Rattle.memory.specs.Bytes.{part, Small}
 use Rattle.memory.specs.Numbers.{number}
 use Rattle.memory.specs.Compare.{same_at, same}
-use Rattle.memory.proofs.Order.{either, pick-both, pick_true, pick-false, not-both}
+use Rattle.memory.proofs.Order.{either, pick-both, pick_true, pick-false, and-pick, not-both}
 use Rattle.memory.proofs.Places.{part-all}
 use Rattle.memory.proofs.Ends.{ends-first, ends_last, ends-both}
-use Rattle.static_search.specs.Ends.{width_of, ends_of, same_ends}
+use Rattle.static_search.specs.Ends.{width_of, ends_of}
 use Rattle.static_search.specs.declared.ends.Ends.{Ends}
 use Rattle.static_search.proofs.Testing.{same-part}
 
@@ -64,6 +65,16 @@ width-covers n =
 abbrev ends : ℕ → ℕ → Ends
 ends first last = record { first = first; last = last }
 
+-- a table of ends says these of each number below n, by computing
+pub table-says : (table : List (ℕ × ℕ)) (says : ℕ → Ends) (n : ℕ)
+    → agree_below (λ k. eqb (get_or table k (0, 0)).0 (says k).first) (λ _. true) n ≡ true
+    → agree_below (λ k. eqb (get_or table k (0, 0)).1 (says k).last) (λ _. true) n ≡ true
+    → (k : ℕ) → k < n → ends (get_or table k (0, 0)).0 (get_or table k (0, 0)).1 ≡ says k
+table-says table says n first last k h =
+    ap₂ ends
+    (eqb-true (get_or table k (0, 0)).0 (says k).first (agree_below_at (λ k. eqb (get_or table k (0, 0)).0 (says k).first) (λ _. true) n k first h))
+    (eqb-true (get_or table k (0, 0)).1 (says k).last (agree_below_at (λ k. eqb (get_or table k (0, 0)).1 (says k).last) (λ _. true) n k last h))
+
 pub ends-are : (b : List ℕ) (w : ℕ) {first last : ℕ} → width_of (length b) ≡ w → first ≡ number w b 0 → last ≡ number w b (length b - w)
     → ends first last ≡ ends_of b
 unfolding ends_of
@@ -83,6 +94,10 @@ unfolding number
 ends-none b e = ends-are b 0 (width_few (length b) (omega arith) ∙ e) refl refl
 
 -- ---- comparing
+
+-- do both ends agree, as the derived test has it?
+abbrev pub agree : Ends → Ends → Bool
+agree x y = eqb x.first y.first && eqb x.last y.last
 
 -- two tests, of which each can fail
 two-tests : (x y u v : ℕ) (r : Bool) → ((x ≡ y → ⊥) → r ≡ false) → ((u ≡ v → ⊥) → r ≡ false) → (x ≡ y → u ≡ v → r ≡ true)
@@ -104,15 +119,17 @@ module _ (a b : List ℕ) (s : Small a) (t : Small b) where
       (λ e d. ends-both n w a 0 b lo hi s t e (at ∙ d))
 
   module _ (l : length a ≡ length b) (h : length b ≤ 16) where
-    ends-decide : same_ends (ends_of a) (ends_of b) ≡ same a b
-    unfolding same_ends ends_of
+    ends-decide : agree (ends_of a) (ends_of b) ≡ same a b
+    unfolding ends_of
     ends-decide =
+        let v : ℕ = width_of (length a) in
         let w : ℕ = width_of (length b) in
         let c = width-covers (length b) in
-        ap (λ (n : ℕ). pick (eqb (number (width_of n) a 0) (number w b 0)) (eqb (number (width_of n) a (n - width_of n)) (number w b (length b - w))) false) l
+        and-pick (eqb (number v a 0) (number w b 0)) (eqb (number v a (length a - v)) (number w b (length b - w)))
+        ∙ ap (λ (n : ℕ). pick (eqb (number (width_of n) a 0) (number w b 0)) (eqb (number (width_of n) a (n - width_of n)) (number w b (length b - w))) false) l
         ∙ by-words (length b) w c.0 (c.1 h)
         ∙ same-part a 0 (length b) a b (ap (part a 0) (sym l) ∙ part-all a) (omega arith) refl
 
     -- the same, of ends that a function has
-    pub ends-same : {x y : Ends} → x ≡ ends_of a → y ≡ ends_of b → same_ends x y ≡ same a b
-    ends-same e d = ap₂ same_ends e d ∙ ends-decide
+    pub ends-same : {x y : Ends} → x ≡ ends_of a → y ≡ ends_of b → agree x y ≡ same a b
+    ends-same e d = ap₂ agree e d ∙ ends-decide

@@ -5,27 +5,27 @@ use Rattle.memory.specs.Compare.{same}
 use Rattle.statics.specs.Table.{static_name, static_value}
 use Rattle.static_search.specs.Search.{lowest_static}
 use Rattle.static_search.specs.declared.hashes.Hashed.{Hashed}
-use Rattle.static_search.specs.declared.search.StaticFound.{StaticFound}
-use Rattle.static_search.specs.declared.search.StaticFound.TheVariants.{At, Nothing}
+use Rattle.std.specs.Prelude.{Option, Some, None}
+use Rattle.integers.specs.declared.number.TableIndex.{TableIndex}
 
 -- a name's length, first and last byte
 unfoldable pub hash_of : List ℕ → ℕ
 hash_of name = (121 * (length name % 128) + 2 * get_or name 0 0 + 33 * get_or name (length name - 1) 0) % 128
 
 -- the entry that was found and how many bytes its name has, or the first and 0
-abbrev pub hashed_at : StaticFound → Hashed
-hashed_at (At j) = record { index = j; length = length (static_name j.value) }
-hashed_at Nothing = record { index = record { value = 1 }; length = 0 }
+abbrev pub hashed_at : Option TableIndex → Hashed
+hashed_at (Some j) = record { index = j; length = length (static_name j.value) }
+hashed_at None = record { index = record { value = 1 }; length = 0 }
 
 -- the lowest entry whose name has this hash
 unfoldable pub hashed_of : ℕ → Hashed
 hashed_of hash = hashed_at (lowest_static (λ k. eqb (hash_of (static_name k)) hash) 61 1)
 
 -- the one entry that may have this name: that which the hash leaves, where its name has as many bytes
-unfoldable pub candidate_of : List ℕ → StaticFound
+unfoldable pub candidate_of : List ℕ → Option TableIndex
 candidate_of name =
-    pick (eqb (length name) 0) Nothing
-    (pick (eqb (hashed_of (hash_of name)).length (length name)) (At (hashed_of (hash_of name)).index) Nothing)
+    pick (eqb (length name) 0) None
+    (pick (eqb (hashed_of (hash_of name)).length (length name)) (Some (hashed_of (hash_of name)).index) None)
 
 -- the same as the table of the program has it: one number
 unfoldable pub stored_of : ℕ → ℕ

@@ -3,8 +3,8 @@ use Rattle.std.specs.Prelude.{ℕ, zero, suc, ◌+◌, Bool, false, List}
 use Rattle.memory.specs.Choice.{pick}
 use Rattle.memory.specs.Compare.{same}
 use Rattle.statics.specs.Table.{static_name, static_value}
-use Rattle.static_search.specs.declared.search.StaticFound.{StaticFound}
-use Rattle.static_search.specs.declared.search.StaticFound.TheVariants.{At, Nothing}
+use Rattle.std.specs.Prelude.{Option, Some, None}
+use Rattle.integers.specs.declared.number.TableIndex.{TableIndex}
 
 -- has the entry with index i this name? these name and value?
 unfoldable pub has_name : ℕ → List ℕ → Bool
@@ -14,20 +14,20 @@ unfoldable pub has_both : ℕ → List ℕ → List ℕ → Bool
 has_both i name value = pick (has_name i name) (same (static_value i) value) false
 
 -- the lowest index at which the test holds, of the n from i on
-unfoldable pub lowest_static : (ℕ → Bool) → ℕ → ℕ → StaticFound
-lowest_static holds zero i = Nothing
-lowest_static holds (suc n) i = pick (holds i) (At (record { value = i })) (lowest_static holds n (i + 1))
+unfoldable pub lowest_static : (ℕ → Bool) → ℕ → ℕ → Option TableIndex
+lowest_static holds zero i = None
+lowest_static holds (suc n) i = pick (holds i) (Some (record { value = i })) (lowest_static holds n (i + 1))
 
-unfoldable pub lowest_name : ℕ → ℕ → List ℕ → StaticFound
+unfoldable pub lowest_name : ℕ → ℕ → List ℕ → Option TableIndex
 lowest_name n i name = lowest_static (λ k. has_name k name) n i
 
-unfoldable pub lowest_both : ℕ → ℕ → List ℕ → List ℕ → StaticFound
+unfoldable pub lowest_both : ℕ → ℕ → List ℕ → List ℕ → Option TableIndex
 lowest_both n i name value = lowest_static (λ k. has_both k name value) n i
 
 -- "the lowest static index with that name"
-abbrev pub find_name : List ℕ → StaticFound
+abbrev pub find_name : List ℕ → Option TableIndex
 find_name name = lowest_name 61 1 name
 
 -- "the lowest static index with equal name and value"
-abbrev pub find_both : List ℕ → List ℕ → StaticFound
+abbrev pub find_both : List ℕ → List ℕ → Option TableIndex
 find_both name value = lowest_both 61 1 name value

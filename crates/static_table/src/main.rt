@@ -16,10 +16,8 @@ fn main() {
 fn print_entries(text: &[u8])
     requires { text.now ≡ static_text }
 {
-    let mut i: u32 = 1;
-    while i <= LAST {
+    for i in 1..=LAST {
         print_entry(text, TableIndex::new(i));
-        i += 1;
     }
 }
 

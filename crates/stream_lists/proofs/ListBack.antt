@@ -11,24 +11,22 @@ use Rattle.memory.proofs.Places.{has_left, has_right}
 use Rattle.integers.specs.Integer.{int_wire}
 use Rattle.stream_lists.specs.StreamList.{read_delta, read_deltas, streams_from, list_of, read_list, Fits, deltas_wire, list_wire}
 use Rattle.stream_lists.specs.declared.stream_list.ListPlace.{ListPlace}
-use Rattle.stream_lists.specs.declared.stream_list.DeltaRead.TheVariants.{Stream}
-use Rattle.stream_lists.specs.declared.stream_list.DeltasRead.TheVariants.{End}
-use Rattle.stream_lists.specs.declared.stream_list.ListRead.TheVariants.{Found}
 use Rattle.integers.proofs.Back.{int-back}
 use Rattle.integers.proofs.Lengths.{int-one, int-within}
 use Rattle.stream_lists.proofs.ListLaws.{delta-stream, deltas-end, deltas-more, streams-end, streams-more, list-found}
 use Rattle.stream_lists.proofs.ListWriting.{list_length}
+use Rattle.std.specs.Prelude.{Ok}
 
 module _ (s : List ℕ) where
   pub delta-back : (at last x : ℕ) → last < x → x ≤ 4095 → Has s at (int_wire 8 0 (x - last))
-      → read_delta s at last ≡ Stream (record { value = x }) (at + length (int_wire 8 0 (x - last)))
+      → read_delta s at last ≡ Ok (record { value = x }, at + length (int_wire 8 0 (x - last)))
   delta-back at last x h k p =
       let e = int-back s 8 at 0 (x - last) (omega arith) p in
       let sum : last + (x - last) ≡ x = omega arith in
       rw sum at (delta-stream s at last _ (sym e) _ _ refl (omega arith) (omega arith))
 
   pub deltas-back : (at last : ℕ) (xs : List ℕ) → Fits last xs → Has s at (deltas_wire last xs)
-      → (read_deltas (length xs) s at last ≡ End (at + length (deltas_wire last xs))) × (streams_from (length xs) s at last ≡ xs)
+      → (read_deltas (length xs) s at last ≡ Ok (at + length (deltas_wire last xs))) × (streams_from (length xs) s at last ≡ xs)
   unfolding deltas_wire
   deltas-back at last [] f p = (rw add-zero (deltas-end s at last 0 (omega arith)), streams-end s at last)
   deltas-back at last (x ∷ xs) f p =
@@ -41,7 +39,7 @@ module _ (s : List ℕ) where
       )
 
   pub list_back : (at h : ℕ) (xs : List ℕ) → h ≤ 4096 → length xs ≤ 16 → Fits h xs → Has s at (list_wire h xs)
-      → (p : ListPlace) × (read_list s at ≡ Found p (at + length (list_wire h xs))) × (list_of s p ≡ record { horizon = h; streams = xs })
+      → (p : ListPlace) × (read_list s at ≡ Ok (p, at + length (list_wire h xs))) × (list_of s p ≡ record { horizon = h; streams = xs })
   unfolding list_wire
   list_back at h xs a b f p =
       let v : List ℕ = int_wire 8 0 h in

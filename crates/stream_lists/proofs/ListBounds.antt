@@ -8,34 +8,14 @@ use lib.ListN.{length}
 use Rattle.memory.proofs.Order.{split}
 use Rattle.integers.specs.Integer.{read_int}
 use Rattle.stream_lists.specs.StreamList.{read_delta, read_deltas, streams_from, list_of, read_list, Fits}
-use Rattle.integers.specs.declared.integer.IntRead.{IntRead}
-use Rattle.integers.specs.declared.integer.IntRead.TheVariants.{Value, Refused as IntRefused}
 use Rattle.integers.specs.declared.number.StreamNumber.{StreamNumber}
 use Rattle.stream_lists.specs.declared.stream_list.ListPlace.{ListPlace}
-use Rattle.stream_lists.specs.declared.stream_list.DeltaRead.{DeltaRead}
-use Rattle.stream_lists.specs.declared.stream_list.DeltaRead.TheVariants.{Stream, Refused as DeltaRefused}
-use Rattle.stream_lists.specs.declared.stream_list.DeltasRead.{DeltasRead}
-use Rattle.stream_lists.specs.declared.stream_list.DeltasRead.TheVariants.{End, Refused as DeltasRefused}
-use Rattle.stream_lists.specs.declared.stream_list.ListRead.{ListRead}
-use Rattle.stream_lists.specs.declared.stream_list.ListRead.TheVariants.{Found, Refused}
 use Rattle.integers.proofs.Bounds.{int-good}
-use Rattle.stream_lists.proofs.ListLaws.{
-  delta-refused,
-  delta-zero,
-  delta-over,
-  delta-stream,
-  deltas-end,
-  deltas-refused,
-  deltas-more,
-  streams-end,
-  streams-more,
-  list-refused,
-  list-far,
-  count-refused,
-  list-many,
-  list-bad,
-  list-found,
-}
+use Rattle.stream_lists.proofs.ListLaws.{delta-refused, delta-zero, delta-over, delta-stream, deltas-end, deltas-refused, deltas-more, streams-end, streams-more, list-refused, list-far, count-refused, list-many, list-bad, list-found}
+use Rattle.std.specs.Prelude.{Result, Ok, Err}
+use Rattle.integers.specs.Answers.{Read}
+use Rattle.integers.specs.declared.answer.Refusal.{Refusal}
+use Rattle.integers.specs.declared.integer.WireInt.{WireInt}
 
 -- what a delta that was read is
 pub record DeltaGood (s : List ℕ) (at last stream next : ℕ) : Type 0 where
@@ -63,24 +43,24 @@ pub record ListGood (s : List ℕ) (at : ℕ) (p : ListPlace) (next : ℕ) : Typ
   pub few : p.count ≤ 16
   pub counted : length (list_of s p).streams ≡ p.count
   pub fits : Fits p.horizon (list_of s p).streams
-  pub deltas : read_deltas p.count s p.deltas p.horizon ≡ End next
+  pub deltas : read_deltas p.count s p.deltas p.horizon ≡ Ok next
 
-abbrev OfDelta : List ℕ → ℕ → ℕ → DeltaRead → Type 0
-OfDelta s at last (Stream x next) = DeltaGood s at last x.value next
-OfDelta s at last (DeltaRefused number) = Unit {0}
+abbrev OfDelta : List ℕ → ℕ → ℕ → Read StreamNumber → Type 0
+OfDelta s at last (Ok (x, next)) = DeltaGood s at last x.value next
+OfDelta s at last (Err why) = Unit {0}
 
-abbrev OfDeltas : ℕ → List ℕ → ℕ → ℕ → DeltasRead → Type 0
-OfDeltas n s at last (End next) = DeltasGood n s at last next
-OfDeltas n s at last (DeltasRefused number) = Unit {0}
+abbrev OfDeltas : ℕ → List ℕ → ℕ → ℕ → Result ℕ Refusal → Type 0
+OfDeltas n s at last (Ok next) = DeltasGood n s at last next
+OfDeltas n s at last (Err why) = Unit {0}
 
-abbrev OfList : List ℕ → ℕ → ListRead → Type 0
-OfList s at (Found p next) = ListGood s at p next
-OfList s at (Refused number) = Unit {0}
+abbrev OfList : List ℕ → ℕ → Read ListPlace → Type 0
+OfList s at (Ok (p, next)) = ListGood s at p next
+OfList s at (Err why) = Unit {0}
 
 module _ (s : List ℕ) (at last : ℕ) where
-  of-delta : (r : IntRead) → r ≡ read_int 8 s at → OfDelta s at last (read_delta s at last)
-  of-delta (IntRefused number) e = rw (delta-refused s at last _ e number refl) tt
-  of-delta (Value n next) e =
+  of-delta : (r : Read WireInt) → r ≡ read_int 8 s at → OfDelta s at last (read_delta s at last)
+  of-delta (Err why) e = rw (delta-refused s at last _ e why refl) tt
+  of-delta (Ok (n, next)) e =
       let g = int-good 8 s at (omega arith) _ e n next refl in
       split 0 n.value
       (λ l. split 4095 (last + n.value)
@@ -88,20 +68,20 @@ module _ (s : List ℕ) (at last : ℕ) where
       (λ m. rw (delta-stream s at last _ e n next refl l m) (record { ascends = omega arith; allowed = m; past = g.0; within = g.1; close = g.3 })))
       (λ l. rw (delta-zero s at last _ e n next refl l) tt)
 
-  pub delta-good : (x : StreamNumber) (next : ℕ) → read_delta s at last ≡ Stream x next → DeltaGood s at last x.value next
+  pub delta-good : (x : StreamNumber) (next : ℕ) → read_delta s at last ≡ Ok (x, next) → DeltaGood s at last x.value next
   delta-good x next d = subst (OfDelta s at last) d (of-delta (read_int 8 s at) refl)
 
 module _ (s : List ℕ) where
-  of-more : (n at last : ℕ) (r : DeltaRead) → r ≡ read_delta s at last
+  of-more : (n at last : ℕ) (r : Read StreamNumber) → r ≡ read_delta s at last
       → ((at last : ℕ) → OfDeltas n s at last (read_deltas n s at last)) → OfDeltas (suc n) s at last (read_deltas (suc n) s at last)
-  of-more n at last (DeltaRefused number) e ih = rw (deltas-refused s at last _ e (suc n) (omega arith) number refl) tt
-  of-more n at last (Stream x after) e ih =
+  of-more n at last (Err why) e ih = rw (deltas-refused s at last _ e (suc n) (omega arith) why refl) tt
+  of-more n at last (Ok (x, after)) e ih =
       let g = delta-good s at last x after (sym e) in
       rw (deltas-more s at last _ e x after refl (suc n) (omega arith), sub-one) (grow (read_deltas n s after x.value) (ih after x.value))
     where
-      grow : (z : DeltasRead) → OfDeltas n s after x.value z → OfDeltas (suc n) s at last z
-      grow (DeltasRefused number) h = tt
-      grow (End next) h =
+      grow : (z : Result ℕ Refusal) → OfDeltas n s after x.value z → OfDeltas (suc n) s at last z
+      grow (Err why) h = tt
+      grow (Ok next) h =
           let g = delta-good s at last x after (sym e) in
           let k = streams-more s at last _ e x after refl n in
           record {
@@ -118,24 +98,24 @@ module _ (s : List ℕ) where
       (record { past = omega arith; within = λ l. l; close = omega arith; counted = ap length (streams-end s at last); fits = rw (streams-end s at last) tt })
   of-deltas (suc n) at last = of-more n at last (read_delta s at last) refl (of-deltas n)
 
-  pub deltas-good : (n at last next : ℕ) → read_deltas n s at last ≡ End next → DeltasGood n s at last next
+  pub deltas-good : (n at last next : ℕ) → read_deltas n s at last ≡ Ok next → DeltasGood n s at last next
   deltas-good n at last next d = subst (OfDeltas n s at last) d (of-deltas n at last)
 
 module _ (s : List ℕ) (at : ℕ) where
-  of-list : (r : IntRead) → r ≡ read_int 8 s at → OfList s at (read_list s at)
-  of-list (IntRefused number) e = rw (list-refused s at _ e number refl) tt
-  of-list (Value x after) e =
+  of-list : (r : Read WireInt) → r ≡ read_int 8 s at → OfList s at (read_list s at)
+  of-list (Err why) e = rw (list-refused s at _ e why refl) tt
+  of-list (Ok (x, after)) e =
       split 4096 x.value (λ h. rw (list-far s at _ e x after refl h) tt) (λ h. counts h (read_int 8 s after) refl)
     where
-      counts : x.value ≤ 4096 → (q : IntRead) → q ≡ read_int 8 s after → OfList s at (read_list s at)
-      counts h (IntRefused number) f = rw (count-refused s at _ e x after refl h _ f number refl) tt
-      counts h (Value y start) f =
+      counts : x.value ≤ 4096 → (q : Read WireInt) → q ≡ read_int 8 s after → OfList s at (read_list s at)
+      counts h (Err why) f = rw (count-refused s at _ e x after refl h _ f why refl) tt
+      counts h (Ok (y, start)) f =
           split 16 y.value (λ k. rw (list-many s at _ e x after refl h _ f y start refl k) tt)
           (λ k. ends k (read_deltas y.value s start x.value) refl)
         where
-          ends : y.value ≤ 16 → (z : DeltasRead) → z ≡ read_deltas y.value s start x.value → OfList s at (read_list s at)
-          ends k (DeltasRefused number) u = rw (list-bad s at _ e x after refl h _ f y start refl k _ u number refl) tt
-          ends k (End next) u =
+          ends : y.value ≤ 16 → (z : Result ℕ Refusal) → z ≡ read_deltas y.value s start x.value → OfList s at (read_list s at)
+          ends k (Err why) u = rw (list-bad s at _ e x after refl h _ f y start refl k _ u why refl) tt
+          ends k (Ok next) u =
               let a = int-good 8 s at (omega arith) _ e x after refl in
               let b = int-good 8 s after (omega arith) _ f y start refl in
               let g = deltas-good s y.value start x.value next (sym u) in
@@ -152,5 +132,5 @@ module _ (s : List ℕ) (at : ℕ) where
                 deltas = sym u;
               })
 
-  pub list-good : (p : ListPlace) (next : ℕ) → read_list s at ≡ Found p next → ListGood s at p next
+  pub list-good : (p : ListPlace) (next : ℕ) → read_list s at ≡ Ok (p, next) → ListGood s at p next
   list-good p next d = subst (OfList s at) d (of-list (read_int 8 s at) refl)

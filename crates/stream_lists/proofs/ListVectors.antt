@@ -4,20 +4,10 @@ use mathlib.Core.Bool.{true, false}
 use mathlib.Core.List.{List, [], ◌∷◌}
 use Prim.Native.Nat.{ℕ}
 use Rattle.integers.specs.Integer.{read_int, groups, int_wire, group_wire}
-use Rattle.stream_lists.specs.StreamList.{
-  StreamList,
-  listed,
-  names,
-  read_delta,
-  read_deltas,
-  streams_from,
-  list_of,
-  read_list,
-  deltas_wire,
-  list_wire,
-}
+use Rattle.stream_lists.specs.StreamList.{StreamList, listed, names, read_delta, read_deltas, streams_from, list_of, read_list, deltas_wire, list_wire}
 use Rattle.stream_lists.specs.declared.stream_list.ListPlace.{ListPlace}
-use Rattle.stream_lists.specs.declared.stream_list.ListRead.TheVariants.{Found, Refused}
+use Rattle.std.specs.Prelude.{Ok, Err}
+use Rattle.integers.specs.declared.answer.Refusal.TheVariants.{BadStreamList, Truncated}
 
 abbrev bytes : List ℕ
 bytes = 0x03 ∷ 0x02 ∷ 0x01 ∷ 0x03 ∷ []
@@ -28,7 +18,7 @@ list = record { horizon = 3; streams = 4 ∷ 7 ∷ [] }
 
 -- the list is at the place p, is the one of the check, and is what is written for it
 abbrev Reads : ListPlace → Type 0
-Reads p = (read_list bytes 0 ≡ Found p 4) × (list_of bytes p ≡ list) × (list_wire 3 (4 ∷ 7 ∷ []) ≡ bytes)
+Reads p = (read_list bytes 0 ≡ Ok (p, 4)) × (list_of bytes p ≡ list) × (list_wire 3 (4 ∷ 7 ∷ []) ≡ bytes)
 
 pub reads : Reads (record { horizon = 3; count = 2; deltas = 2 })
 unfolding read_int groups read_delta read_deltas streams_from read_list int_wire group_wire deltas_wire list_wire
@@ -41,10 +31,10 @@ unfolding names listed
 named = (refl, refl, refl, refl, refl, refl, refl, refl)
 
 -- horizon 4,097, count 17, delta 0, stream 4,096: 14; a delta that is missing: 2
-pub limits : (read_list (0xff ∷ 0x82 ∷ 0x1e ∷ 0x00 ∷ []) 0 ≡ Refused 14)
-    × (read_list (0x00 ∷ 0x11 ∷ []) 0 ≡ Refused 14)
-    × (read_list (0x03 ∷ 0x01 ∷ 0x00 ∷ []) 0 ≡ Refused 14)
-    × (read_list (0xff ∷ 0x81 ∷ 0x1e ∷ 0x01 ∷ 0x01 ∷ []) 0 ≡ Refused 14)
-    × (read_list (0x03 ∷ 0x02 ∷ 0x01 ∷ []) 0 ≡ Refused 2)
+pub limits : (read_list (0xff ∷ 0x82 ∷ 0x1e ∷ 0x00 ∷ []) 0 ≡ Err BadStreamList)
+    × (read_list (0x00 ∷ 0x11 ∷ []) 0 ≡ Err BadStreamList)
+    × (read_list (0x03 ∷ 0x01 ∷ 0x00 ∷ []) 0 ≡ Err BadStreamList)
+    × (read_list (0xff ∷ 0x81 ∷ 0x1e ∷ 0x01 ∷ 0x01 ∷ []) 0 ≡ Err BadStreamList)
+    × (read_list (0x03 ∷ 0x02 ∷ 0x01 ∷ []) 0 ≡ Err Truncated)
 unfolding read_int groups read_delta read_deltas read_list
 limits = (refl, refl, refl, refl, refl)

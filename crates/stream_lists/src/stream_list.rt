@@ -1,10 +1,10 @@
 // Stream lists: a horizon, a count and deltas, all with prefixes of eight bits.
 ghost use Rattle.std.specs.Prelude.{◌≡◌, ℕ, ◌+◌, ◌≤◌, length};
 ghost use Rattle.memory.specs.Bytes.{overlay};
-ghost use Rattle.stream_lists.specs.StreamList.{horizon_limit, count_limit, delta_answer, deltas_answer, list_answer, read_delta, read_deltas, read_list, Fits, deltas_wire, list_wire};
+ghost use Rattle.stream_lists.specs.StreamList.{horizon_limit, count_limit, read_delta, read_deltas, read_list, Fits, deltas_wire, list_wire};
 
-use integers::answer::{BAD_STREAM_LIST, DONE};
-use integers::integer::{IntRead, WireInt};
+use integers::answer::{Read, Refusal};
+use integers::integer::WireInt;
 use integers::number::StreamNumber;
 
 pub const HORIZON_LIMIT: u32 = 4_096;
@@ -19,130 +19,70 @@ pub struct ListPlace {
     pub deltas: usize,
 }
 
-// What reading a delta finds: the listed stream and the place after it, or the answer's number.
-#[derive(Drop)]
-pub enum DeltaRead {
-    Stream(StreamNumber, usize),
-    Refused(u8),
-}
-
-// What reading all deltas finds: the place after them, or the answer's number.
-#[derive(Drop)]
-pub enum DeltasRead {
-    End(usize),
-    Refused(u8),
-}
-
-// What reading a list finds: the list and the place after it, or the answer's number.
-#[derive(Drop)]
-pub enum ListRead {
-    Found(ListPlace, usize),
-    Refused(u8),
-}
-
-impl DeltaRead {
-    pub fn number(self) -> u8
-        ensures { result ≡ (delta_answer self).number }
-    {
-        match self {
-            DeltaRead::Stream(_, _) => DONE,
-            DeltaRead::Refused(number) => number,
-        }
-    }
-}
-
-impl DeltasRead {
-    pub fn number(self) -> u8
-        ensures { result ≡ (deltas_answer self).number }
-    {
-        match self {
-            DeltasRead::End(_) => DONE,
-            DeltasRead::Refused(number) => number,
-        }
-    }
-}
-
-impl ListRead {
-    pub fn number(self) -> u8
-        ensures { result ≡ (list_answer self).number }
-    {
-        match self {
-            ListRead::Found(_, _) => DONE,
-            ListRead::Refused(number) => number,
-        }
-    }
-}
-
 // The stream whose delta stands at the place `at`, counted from `last`: the horizon, which may be one more than any stream, or the stream before.
-pub fn read_delta(s: &[u8], at: usize, last: u32) -> DeltaRead
+pub fn read_delta(s: &[u8], at: usize, last: u32) -> Read<StreamNumber>
     requires { last ≤ horizon_limit }
     ensures { result ≡ read_delta s.now at last }
 {
     let r = WireInt::read(s, at, WireInt::PREFIX8);
-    let IntRead::Value(n, next) = r else {
-        return DeltaRead::Refused(r.number());
+    let Ok((n, next)) = r else {
+        return Err(r.unwrap_err());
     };
     let delta = n.value;
     if delta == 0 {
-        return DeltaRead::Refused(BAD_STREAM_LIST);
+        return Err(Refusal::BadStreamList);
     }
     let stream = last + delta;
     if (StreamNumber::LAST as u32) < stream {
-        return DeltaRead::Refused(BAD_STREAM_LIST);
+        return Err(Refusal::BadStreamList);
     }
-    DeltaRead::Stream(StreamNumber::new(stream as u16), next)
+    Ok((StreamNumber::new(stream as u16), next))
 }
 
 // `count` deltas from the place `at` on; the first counts from the horizon.
-fn read_deltas(s: &[u8], at: usize, count: u32, horizon: u32) -> DeltasRead
+fn read_deltas(s: &[u8], at: usize, count: u32, horizon: u32) -> Result<usize, Refusal>
     requires { horizon ≤ horizon_limit }
     ensures { result ≡ read_deltas count s.now at horizon }
 {
     let mut next = at;
     let mut last = horizon;
     for _ in 0..count {
-        let r = read_delta(s, next, last);
-        let DeltaRead::Stream(stream, after) = r else {
-            return DeltasRead::Refused(r.number());
-        };
+        let (stream, after) = read_delta(s, next, last)?;
         last = stream.value as u32;
         next = after;
     }
-    DeltasRead::End(next)
+    Ok(next)
 }
 
 // The stream list at the place `at`.
-pub fn read_list(s: &[u8], at: usize) -> ListRead
+pub fn read_list(s: &[u8], at: usize) -> Read<ListPlace>
     ensures { result ≡ read_list s.now at }
 {
     let r = WireInt::read(s, at, WireInt::PREFIX8);
-    let IntRead::Value(n, after) = r else {
-        return ListRead::Refused(r.number());
+    let Ok((n, after)) = r else {
+        return Err(r.unwrap_err());
     };
     let horizon = n.value;
     if HORIZON_LIMIT < horizon {
-        return ListRead::Refused(BAD_STREAM_LIST);
+        return Err(Refusal::BadStreamList);
     }
     let q = WireInt::read(s, after, WireInt::PREFIX8);
-    let IntRead::Value(m, deltas) = q else {
-        return ListRead::Refused(q.number());
+    let Ok((m, deltas)) = q else {
+        return Err(q.unwrap_err());
     };
     let count = m.value;
     if COUNT_LIMIT < count {
-        return ListRead::Refused(BAD_STREAM_LIST);
+        return Err(Refusal::BadStreamList);
     }
-    let d = read_deltas(s, deltas, count, horizon);
-    let DeltasRead::End(next) = d else {
-        return ListRead::Refused(d.number());
-    };
-    ListRead::Found(
+    let next = read_deltas(s, deltas, count, horizon)?;
+    Ok((
         ListPlace {
             horizon,
             count,
             deltas,
         },
         next,
-    )
+    ))
 }
 
 // Writes the deltas of ascending streams above the horizon, and answers the place after them.
@@ -154,13 +94,11 @@ fn write_deltas(horizon: u32, streams: &[u16], out: &mut [u8], at: usize) -> usi
 {
     let mut next = at;
     let mut last = horizon;
-    let mut i: usize = 0;
-    while i < streams.len() {
-        let stream = streams[i] as u32;
+    for listed in streams {
+        let stream = *listed as u32;
         let delta = WireInt::new(stream - last);
         next = delta.write(out, next, WireInt::PREFIX8, 0);
         last = stream;
-        i += 1;
     }
     next
 }

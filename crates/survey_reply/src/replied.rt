@@ -4,21 +4,21 @@ ghost use Rattle.reply.specs.Reply.{answer_of};
 ghost use Rattle.decoder_survey.specs.Passes.{survey_answer, ToldSurvey};
 
 use decoder_survey::measure::Survey;
-use integers::answer::WAITS;
+use integers::answer::{Refusal, WAITS};
 use reply::Reply;
 
 // The reply to a block by its survey: its refusal, the vacant index that it waits for, or done with the bytes of its fields.
-pub fn replied(survey: Survey) -> Reply
+pub fn replied(survey: Result<Survey, Refusal>) -> Reply
     requires { ToldSurvey survey }
     ensures { answer_of result ≡ survey_answer survey }
 {
     match survey {
-        Survey::Refused(number) => Reply::refused(number),
-        Survey::Waits(index) => Reply {
+        Err(why) => Reply::because(why),
+        Ok(Survey::Waits(index)) => Reply {
             number: WAITS,
             first: index.value,
             second: 0,
         },
-        Survey::Bytes(n) => Reply::done(n as u32, 0),
+        Ok(Survey::Bytes(n)) => Reply::done(n as u32, 0),
     }
 }

@@ -18,7 +18,7 @@ use table::remove::remove;
 use table::start::start;
 use table_insert::insert::insert;
 use table_rows::fits;
-use table_search::find::{Found, find};
+use table_search::find::find;
 
 // How many indexes are used, from the first on.
 const USED: u32 = 128;
@@ -64,8 +64,7 @@ fn with_text(m: &mut [u8]) {
 fn fill(m: &mut [u8], step: u32, n: u32, text: u32) {
     let source: &[u8] = b"ABCDEFGHIJKLMNOPQRSTUVWXYZ012345";
     let mut k: u32 = 0;
-    let mut i: u32 = 0;
-    while i < n {
+    for _ in 0..n {
         let name = (text % 8 * k % 17) as usize;
         let value = (text % 8 * (k + 3) % 14) as usize;
         put(
@@ -75,18 +74,15 @@ fn fill(m: &mut [u8], step: u32, n: u32, text: u32) {
             &source[..value],
         );
         k = (k + step % USED) % USED;
-        i += 1;
     }
 }
 
 // Takes `n` entries out, likewise.
 fn empty(m: &mut [u8], step: u32, n: u32) {
     let mut k: u32 = 0;
-    let mut i: u32 = 0;
-    while i < n {
+    for _ in 0..n {
         take(m, TableIndex::new(TableIndex::FIRST + k));
         k = (k + step % USED) % USED;
-        i += 1;
     }
 }
 
@@ -99,7 +95,7 @@ fn put(m: &mut [u8], index: TableIndex, name: &[u8], value: &[u8])
         return;
     }
     let f = find(m, index);
-    let Found::Vacant(place) = f else {
+    let Err(place) = f else {
         line(b"held ", index.value);
         return;
     };
@@ -119,7 +115,7 @@ fn take(m: &mut [u8], index: TableIndex)
         return;
     }
     let f = find(m, index);
-    let Found::At(place) = f else {
+    let Ok(place) = f else {
         line(b"vacant ", index.value);
         return;
     };

@@ -26,12 +26,11 @@ use Rattle.state_laws.proofs.Pointing.{indexes, look-absent, pointed, tied-count
 use Rattle.state_laws.proofs.HeldRows.{held_back, rows-size, fits-order, fits-tied, fits-few, fits-lists}
 use Rattle.state_laws.proofs.DecoderHolds.{HoldsDecoder}
 use Rattle.table_search.specs.Search.{find_from}
-use Rattle.table_search.specs.declared.find.Found.{Found}
-use Rattle.table_search.specs.declared.find.Found.TheVariants.{At, Vacant}
 use Rattle.table_laws.specs.DecoderChanges.{found, missing, held_at}
 use Rattle.table_laws.proofs.Finding.{FoundAt, MissingAt, found_front, missing-front}
 use Rattle.table_laws.proofs.DecoderPlaces.{none-place, place_found_lem, place-index}
 use Rattle.table_laws.proofs.DecoderRows.{pointed-less}
+use Rattle.std.specs.Prelude.{Result, Ok, Err}
 
 -- ---- deletes split at a place: 76 bytes each
 
@@ -208,9 +207,9 @@ module _ (D : Decoder) (m : List ℕ) (H : HoldsDecoder D m) where
       x : ℕ
       x = get_or (indexes ds) k 0
 
-      go : (f : Found) → find_from m x (count_of m) 0 ≡ f → (p : ℕ) × found m x p × (status_at m p ≡ suc k)
-      go (At p) e = (p, e, omega (arith, status-found x p (found_at x p e), place-index 0 k ds H.fits.forms.once h))
-      go (Vacant p) e = absurd (look-absent x ds (no-delete D m H x (missing_at x p e).looked) k h refl)
+      go : (f : Result ℕ ℕ) → find_from m x (count_of m) 0 ≡ f → (p : ℕ) × found m x p × (status_at m p ≡ suc k)
+      go (Ok p) e = (p, e, omega (arith, status-found x p (found_at x p e), place-index 0 k ds H.fits.forms.once h))
+      go (Err p) e = absurd (look-absent x ds (no-delete D m H x (missing_at x p e).looked) k h refl)
 
   index_is : (k : ℕ) → k < length ds → get_or (indexes ds) k 0 ≡ delete_index_at m k
   index_is k h =

@@ -24,11 +24,10 @@ use Rattle.state_laws.proofs.EncoderForms.{sents-good}
 use Rattle.table_search.specs.Search.{find_from}
 use Rattle.name_search.specs.Names.{serves_at, serves_both_at, lowest_row}
 use Rattle.table_search.specs.Search as memory
-use Rattle.table_search.specs.declared.find.Found.TheVariants.{At, Vacant}
-use Rattle.name_search.specs.declared.names.Sought.TheVariants.{Row, Nothing}
 use Rattle.table_search.proofs.Modelled.{find-look, find-look-none, vacant-model}
 use Rattle.name_search.proofs.LowestRow.{row_within, search-model, search-model-none}
 use Rattle.table_laws.specs.DecoderChanges.{found, missing}
+use Rattle.std.specs.Prelude.{Ok, Err, Some, None}
 
 module _ (m : List ℕ) where
   -- a search for the lowest vacant index misses it, at its place
@@ -39,19 +38,19 @@ module _ (m : List ℕ) where
       let h = vacant-beyond k (i + 1) in
       pick-eq (λ (v : ℕ). i ≤ v) (index_at m i) (62 + i) (memory.vacant_row m k (i + 1)) i (λ e. omega arith) (λ e. omega arith)
 
-  vacant-missing : (k i : ℕ) → Ascending row_index (62 + i) (rows_of m i k) → find_from m (62 + memory.vacant_row m k i) k i ≡ Vacant (memory.vacant_row m k i)
+  vacant-missing : (k i : ℕ) → Ascending row_index (62 + i) (rows_of m i k) → find_from m (62 + memory.vacant_row m k i) k i ≡ Err (memory.vacant_row m k i)
   unfolding memory.vacant_row find_from rows_of
   vacant-missing zero i a = refl
   vacant-missing (suc k) i a =
       let low = a.0 in
-      pick-eq (λ (v : ℕ). find_from m (62 + v) (suc k) i ≡ Vacant v) (index_at m i) (62 + i) (memory.vacant_row m k (i + 1)) i
+      pick-eq (λ (v : ℕ). find_from m (62 + v) (suc k) i ≡ Err v) (index_at m i) (62 + i) (memory.vacant_row m k (i + 1)) i
       (λ e.
       let v : ℕ = memory.vacant_row m k (i + 1) in
       let next : suc (index_at m i) ≡ 62 + (i + 1) = omega arith in
       pick_true (ltb (index_at m i) (62 + v)) _ _ (lt-ltb (index_at m i) (62 + v) (omega (arith, vacant-beyond k (i + 1))))
       ∙ vacant-missing k (i + 1) (rw next at a.1))
       (λ e.
-      pick-false (ltb (index_at m i) (62 + i)) _ _ (le-ltb (index_at m i) (62 + i) low) ∙ pick_no (index_at m i) (62 + i) (At i) (Vacant i) e)
+      pick-false (ltb (index_at m i) (62 + i)) _ _ (le-ltb (index_at m i) (62 + i) low) ∙ pick_no (index_at m i) (62 + i) (Ok i) (Err i) e)
 
 -- a status is 0 or 1: not the one is the other
 status-not : (n : ℕ) → n ≤ 1 → not (eqb n 1) ≡ eqb n 0
@@ -103,13 +102,13 @@ module _ (E : Encoder) (m : List ℕ) (H : HoldsEncoder E m) where
   -- ---- by a test
 
   module _ (test : Sent → Bool) (at : ℕ → Bool) (is : (j : ℕ) → j < count_of m → test (sent_at m j) ≡ at j) where
-    test-found : (place : ℕ) → lowest_row at (count_of m) 0 ≡ Row place
+    test-found : (place : ℕ) → lowest_row at (count_of m) 0 ≡ Some place
         → (place < count_of m) × (first test E.entries ≡ some (sent_at m place))
     test-found place e =
         let b = (row_within at (count_of m) 0 place e).1 in
         (omega arith, ap (first test) (sym entries-are) ∙ search-model m at test (count_of m) 0 place (λ j l h. is j (omega arith)) e)
 
-    test-missed : lowest_row at (count_of m) 0 ≡ Nothing → first test E.entries ≡ none
+    test-missed : lowest_row at (count_of m) 0 ≡ None → first test E.entries ≡ none
     test-missed e =
         ap (first test) (sym entries-are) ∙ search-model-none m at test (count_of m) 0 (λ j l h. is j (omega arith)) e
 
@@ -121,18 +120,18 @@ module _ (E : Encoder) (m : List ℕ) (H : HoldsEncoder E m) where
   unfolding serves_both serves_both_at sent_at
   serves-both-is name value j h = ap (λ (b : Bool). b && same (value_at m j) value) (serves-is name j h)
 
-  pub says-serving : (name : List ℕ) (place : ℕ) → lowest_row (serves_at m name) (count_of m) 0 ≡ Row place
+  pub says-serving : (name : List ℕ) (place : ℕ) → lowest_row (serves_at m name) (count_of m) 0 ≡ Some place
       → (place < count_of m) × (first (serves name) E.entries ≡ some (sent_at m place))
   says-serving name = test-found (serves name) (serves_at m name) (serves-is name)
 
-  pub says-unserved : (name : List ℕ) → lowest_row (serves_at m name) (count_of m) 0 ≡ Nothing → first (serves name) E.entries ≡ none
+  pub says-unserved : (name : List ℕ) → lowest_row (serves_at m name) (count_of m) 0 ≡ None → first (serves name) E.entries ≡ none
   says-unserved name = test-missed (serves name) (serves_at m name) (serves-is name)
 
-  pub says-serving-both : (name value : List ℕ) (place : ℕ) → lowest_row (serves_both_at m name value) (count_of m) 0 ≡ Row place
+  pub says-serving-both : (name value : List ℕ) (place : ℕ) → lowest_row (serves_both_at m name value) (count_of m) 0 ≡ Some place
       → (place < count_of m) × (first (serves_both name value) E.entries ≡ some (sent_at m place))
   says-serving-both name value = test-found (serves_both name value) (serves_both_at m name value) (serves-both-is name value)
 
-  pub says-unserved-both : (name value : List ℕ) → lowest_row (serves_both_at m name value) (count_of m) 0 ≡ Nothing
+  pub says-unserved-both : (name value : List ℕ) → lowest_row (serves_both_at m name value) (count_of m) 0 ≡ None
       → first (serves_both name value) E.entries ≡ none
   says-unserved-both name value = test-missed (serves_both name value) (serves_both_at m name value) (serves-both-is name value)
 

@@ -19,8 +19,7 @@ use Rattle.state_laws.proofs.FrontHolds.{HoldsFront}
 use Rattle.state_laws.proofs.FrontRead.{read_count, read-each}
 use Rattle.state_laws.proofs.RowsRead.{RowsRead}
 use Rattle.table_search.specs.Search.{find_from}
-use Rattle.table_search.specs.declared.find.Found.{Found}
-use Rattle.table_search.specs.declared.find.Found.TheVariants.{At, Vacant}
+use Rattle.std.specs.Prelude.{Result, Ok, Err}
 
 -- ---- a list split at the entry with index x, which is at the place p
 pub record FoundAt {X : Type 0} (index : X → ℕ) (x p : ℕ) (l : List X) : Type 0 where
@@ -94,22 +93,22 @@ module _ {X : Type 0} (index : X → ℕ) (x : ℕ) (y : X) (l : List X) where
 
 -- ---- the search
 module _ {X : Type 0} (index : X → ℕ) (make : X → Row) (same : (e : X) → (make e).index ≡ index e) (m : List ℕ) (x : ℕ) where
-  find-found : (l : List X) (i o p : ℕ) → RowsRead m i o (map make l) → find_from m x (length l) i ≡ At p
+  find-found : (l : List X) (i o p : ℕ) → RowsRead m i o (map make l) → find_from m x (length l) i ≡ Ok p
       → (q : ℕ) × (i + q ≡ p) × FoundAt index x q l
   unfolding find_from
   find-found [] i o p R e = nope (cc)
   find-found (y ∷ l) i o p R e =
       let d : index_at m i ≡ index y = R.0.index ∙ same y in
-      pick-lt (λ (r : Found). r ≡ At p → (q : ℕ) × (i + q ≡ p) × FoundAt index x q (y ∷ l))
-      (index_at m i) x (find_from m x (length l) (i + 1)) (pick (eqb (index_at m i) x) (At i) (Vacant i))
+      pick-lt (λ (r : Result ℕ ℕ). r ≡ Ok p → (q : ℕ) × (i + q ≡ p) × FoundAt index x q (y ∷ l))
+      (index_at m i) x (find_from m x (length l) (i + 1)) (pick (eqb (index_at m i) x) (Ok i) (Err i))
       (λ h k. let w = find-found l (i + 1) (o + length (text_of (make y).entry)) p R.1 k in
       (suc w.0, omega (arith, w.1), found-next index x y l w.0 (λ z. omega arith) w.2))
-      (λ h. pick-eq (λ (r : Found). r ≡ At p → (q : ℕ) × (i + q ≡ p) × FoundAt index x q (y ∷ l)) (index_at m i) x (At i) (Vacant i)
+      (λ h. pick-eq (λ (r : Result ℕ ℕ). r ≡ Ok p → (q : ℕ) × (i + q ≡ p) × FoundAt index x q (y ∷ l)) (index_at m i) x (Ok i) (Err i)
       (λ q k. let z : i ≡ p = cc in (0, omega arith, found_here index x y l (sym d ∙ q)))
       (λ q k. nope (cc)))
       e
 
-  find-missing : (l : List X) (i o lo p : ℕ) → RowsRead m i o (map make l) → Ascending index lo l → find_from m x (length l) i ≡ Vacant p
+  find-missing : (l : List X) (i o lo p : ℕ) → RowsRead m i o (map make l) → Ascending index lo l → find_from m x (length l) i ≡ Err p
       → (q : ℕ) × (i + q ≡ p) × MissingAt index x q l
   unfolding find_from look put
   find-missing [] i o lo p R A e =
@@ -117,11 +116,11 @@ module _ {X : Type 0} (index : X → ℕ) (make : X → Row) (same : (e : X) →
       (0, omega arith, record { before = []; after = []; is = refl; at = refl; looked = refl; into = λ c d. refl })
   find-missing (y ∷ l) i o lo p R A e =
       let d : index_at m i ≡ index y = R.0.index ∙ same y in
-      pick-lt (λ (r : Found). r ≡ Vacant p → (q : ℕ) × (i + q ≡ p) × MissingAt index x q (y ∷ l))
-      (index_at m i) x (find_from m x (length l) (i + 1)) (pick (eqb (index_at m i) x) (At i) (Vacant i))
+      pick-lt (λ (r : Result ℕ ℕ). r ≡ Err p → (q : ℕ) × (i + q ≡ p) × MissingAt index x q (y ∷ l))
+      (index_at m i) x (find_from m x (length l) (i + 1)) (pick (eqb (index_at m i) x) (Ok i) (Err i))
       (λ h k. let w = find-missing l (i + 1) (o + length (text_of (make y).entry)) (suc (index y)) p R.1 A.1 k in
       (suc w.0, omega (arith, w.1), missing-next index x y l w.0 (omega arith) w.2))
-      (λ h. pick-eq (λ (r : Found). r ≡ Vacant p → (q : ℕ) × (i + q ≡ p) × MissingAt index x q (y ∷ l)) (index_at m i) x (At i) (Vacant i)
+      (λ h. pick-eq (λ (r : Result ℕ ℕ). r ≡ Err p → (q : ℕ) × (i + q ≡ p) × MissingAt index x q (y ∷ l)) (index_at m i) x (Ok i) (Err i)
       (λ q k. nope (cc))
       (λ q k. let z : i ≡ p = cc in (0, omega arith, missing-here index x y l (omega arith) A.1)))
       e
@@ -131,13 +130,13 @@ module _ {X : Type 0} (index : X → ℕ) (make : X → Row) (same : (e : X) →
     count : count_of m ≡ length l
     count = read_count f m H ∙ ap length rows ∙ length-map l make
 
-    pub found_front : find_from m x (count_of m) 0 ≡ At p → FoundAt index x p l
+    pub found_front : find_from m x (count_of m) 0 ≡ Ok p → FoundAt index x p l
     found_front e =
         let w = find-found l 0 0 p (subst (RowsRead m 0 0) rows (read-each f m H)) (rw count at e) in
         let z : w.0 ≡ p = omega (arith, w.1) in
         rw z at w.2
 
-    pub missing-front : (lo : ℕ) → Ascending index lo l → find_from m x (count_of m) 0 ≡ Vacant p → MissingAt index x p l
+    pub missing-front : (lo : ℕ) → Ascending index lo l → find_from m x (count_of m) 0 ≡ Err p → MissingAt index x p l
     missing-front lo A e =
         let w = find-missing l 0 0 lo p (subst (RowsRead m 0 0) rows (read-each f m H)) A (rw count at e) in
         let z : w.0 ≡ p = omega (arith, w.1) in

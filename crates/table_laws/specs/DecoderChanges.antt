@@ -12,11 +12,11 @@ use Rattle.state.specs.Rows.{name_at, value_at}
 use Rattle.state.specs.DecoderState.{delete_at, decoder_of, overlay_decoder}
 use Rattle.state.specs.Forms.{forms_decoder}
 use Rattle.table_search.specs.Search.{Ordered, find_from}
-use Rattle.table_search.specs.declared.find.Found.TheVariants.{At, Vacant}
 use Rattle.parts.specs.Close.{closed_both, closed_by}
 use Rattle.holds.specs.Hold.{GoodDelete}
 use Rattle.table.specs.Changes.{Opening, NamedHere, inserted, Removing, removed, started}
 use Rattle.deletes.specs.Deletes.{appended, Dropping, dropped}
+use Rattle.std.specs.Prelude.{Ok, Err}
 
 -- memory that forms a decoder's state, and what it stands for
 pub record DecoderStands (m : List ℕ) (D : Decoder) : Type 0 where
@@ -25,10 +25,10 @@ pub record DecoderStands (m : List ℕ) (D : Decoder) : Type 0 where
   pub state : decoder_of m ≡ D
 
 abbrev pub found : List ℕ → ℕ → ℕ → Type 0
-found m x place = find_from m x (count_of m) 0 ≡ At place
+found m x place = find_from m x (count_of m) 0 ≡ Ok place
 
 abbrev pub missing : List ℕ → ℕ → ℕ → Type 0
-missing m x place = find_from m x (count_of m) 0 ≡ Vacant place
+missing m x place = find_from m x (count_of m) 0 ≡ Err place
 
 -- the entry that stands in a row
 abbrev pub held_at : List ℕ → ℕ → ℕ → Held

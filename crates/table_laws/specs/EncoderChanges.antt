@@ -13,11 +13,11 @@ use Rattle.parts.specs.Close.{closed_by}
 use Rattle.table_search.specs.Search.{Ordered}
 use Rattle.name_search.specs.Names.{serves_at, serves_both_at, lowest_row}
 use Rattle.table_search.specs.Search as memory
-use Rattle.name_search.specs.declared.names.Sought.TheVariants.{Row, Nothing}
 use Rattle.table.specs.Changes.{Opening, inserted, Removing, removed, started}
 use Rattle.table_rows.specs.Rows.{status_set}
 use Rattle.horizons.specs.Horizons.{raised, horizons_opened, horizons_closed}
 use Rattle.table_laws.specs.DecoderChanges.{found, missing}
+use Rattle.std.specs.Prelude.{Some, None}
 
 -- memory that forms an encoder's state, and what it stands for
 pub record EncoderStands (m : List ℕ) (E : Encoder) : Type 0 where
@@ -38,12 +38,12 @@ pub record EncoderChanges (m : List ℕ) (E : Encoder) : Type 0 where
   pub here : (x place : ℕ) → found m x place → (place < count_of m) × (look sent_index x E.entries ≡ some (sent_at m place))
   pub nowhere : (x place : ℕ) → missing m x place → look sent_index x E.entries ≡ none
   -- "the lowest dynamic one not under deletion"
-  pub serving : (name : List ℕ) (place : ℕ) → lowest_row (serves_at m name) (count_of m) 0 ≡ Row place
+  pub serving : (name : List ℕ) (place : ℕ) → lowest_row (serves_at m name) (count_of m) 0 ≡ Some place
       → (place < count_of m) × (first (serves name) E.entries ≡ some (sent_at m place))
-  pub unserved : (name : List ℕ) → lowest_row (serves_at m name) (count_of m) 0 ≡ Nothing → first (serves name) E.entries ≡ none
-  pub serving_both : (name value : List ℕ) (place : ℕ) → lowest_row (serves_both_at m name value) (count_of m) 0 ≡ Row place
+  pub unserved : (name : List ℕ) → lowest_row (serves_at m name) (count_of m) 0 ≡ None → first (serves name) E.entries ≡ none
+  pub serving_both : (name value : List ℕ) (place : ℕ) → lowest_row (serves_both_at m name value) (count_of m) 0 ≡ Some place
       → (place < count_of m) × (first (serves_both name value) E.entries ≡ some (sent_at m place))
-  pub unserved_both : (name value : List ℕ) → lowest_row (serves_both_at m name value) (count_of m) 0 ≡ Nothing
+  pub unserved_both : (name value : List ℕ) → lowest_row (serves_both_at m name value) (count_of m) 0 ≡ None
       → first (serves_both name value) E.entries ≡ none
   -- "the lowest from 62 that is not held"
   pub vacant : 62 + memory.vacant_row m (count_of m) 0 ≡ vacant_from sent_index 62 E.entries

@@ -1,4 +1,5 @@
-// The rows of the table: put in and taken out, and the record of held size and count.
+// The rows of the table: put in and taken out, and the record of held size and count. Place and count, with their bounds, are no struct: each function asks for
+// other bounds, since a row is put in at most at the end and taken out before it.
 #![tactic(auto)]
 
 ghost use Rattle.std.specs.Prelude.{◌≡◌, ℕ, ◌+◌, ◌-◌, ◌≤◌, ◌<◌, length, leb};

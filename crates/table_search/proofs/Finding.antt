@@ -10,7 +10,7 @@ use borrow.Author.Tests.{lt-ltb, le-ltb, eq-eqb, ne_eqb}
 use Rattle.memory.proofs.Order.{split, pick_true, pick-false}
 use Rattle.state.specs.Layout.{count_of, index_at}
 use Rattle.table_search.specs.Search.{Ordered, find_from}
-use Rattle.table_search.specs.declared.find.Found.TheVariants.{At, Vacant}
+use Rattle.std.specs.Prelude.{Ok, Err}
 
 module _ (m : List ℕ) (x : ℕ) where
   -- d rows are passed
@@ -23,12 +23,12 @@ module _ (m : List ℕ) (x : ℕ) where
       (pick_true (ltb (index_at m i) x) _ _ (lt-ltb (index_at m i) x (f i (omega arith))) ∙ (rw e at (passed d k (i + 1) (λ j h. f j (omega arith)))))
 
   -- the row that decides, or none is left
-  stands : (k i : ℕ) → index_at m i ≡ x → find_from m x (suc k) i ≡ At i
+  stands : (k i : ℕ) → index_at m i ≡ x → find_from m x (suc k) i ≡ Ok i
   unfolding find_from
   stands k i e =
       pick-false (ltb (index_at m i) x) _ _ (le-ltb (index_at m i) x (omega arith)) ∙ pick_true (eqb (index_at m i) x) _ _ (eq-eqb (index_at m i) x e)
 
-  above : (k i : ℕ) → (0 < k → x < index_at m i) → find_from m x k i ≡ Vacant i
+  above : (k i : ℕ) → (0 < k → x < index_at m i) → find_from m x k i ≡ Err i
   unfolding find_from
   above zero i f = refl
   above (suc k) i f =
@@ -44,7 +44,7 @@ module _ (m : List ℕ) (x : ℕ) where
 
 module _ (m : List ℕ) (o : Ordered m) (x : ℕ) where
   -- row p has the index
-  pub find_at : (p : ℕ) → p < count_of m → index_at m p ≡ x → find_from m x (count_of m) 0 ≡ At p
+  pub find_at : (p : ℕ) → p < count_of m → index_at m p ≡ x → find_from m x (count_of m) 0 ≡ Ok p
   find_at p h e =
       let f : count_of m - p ≡ suc (count_of m - (p + 1)) = omega arith in
       passed-from m x (count_of m) p (omega arith) (λ j l. let r = o.rising j p l h in omega arith)
@@ -53,7 +53,7 @@ module _ (m : List ℕ) (o : Ordered m) (x : ℕ) where
 
   -- it would stand at place p: row p, if there is one, is above it, and row p - 1 below
   pub find-vacant : (p : ℕ) → p ≤ count_of m → (p < count_of m → x < index_at m p) → (0 < p → index_at m (p - 1) < x)
-      → find_from m x (count_of m) 0 ≡ Vacant p
+      → find_from m x (count_of m) 0 ≡ Err p
   find-vacant p h hi lo =
       passed-from m x (count_of m) p h
       (λ j l. let b = lo (omega arith) in

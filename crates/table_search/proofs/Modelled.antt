@@ -12,37 +12,36 @@ use Rattle.model_laws.proofs.Tables.{nope, pick-eq, pick-lt, pick_yes, pick_no, 
 use Rattle.state.specs.Layout.{index_at}
 use Rattle.state.specs.EncoderState.{sent_at, sents_of}
 use Rattle.table_search.specs.Search.{find_from, vacant_row}
-use Rattle.table_search.specs.declared.find.Found.{Found}
-use Rattle.table_search.specs.declared.find.Found.TheVariants.{At, Vacant}
+use Rattle.std.specs.Prelude.{Result, Ok, Err}
 
 module _ (m : List ℕ) where
   -- ---- by index, of the k rows from row i on
 
-  pub find-look : (x k i p : ℕ) → find_from m x k i ≡ At p → (look sent_index x (sents_of m i k) ≡ some (sent_at m p)) × (i ≤ p) × (p < i + k)
+  pub find-look : (x k i p : ℕ) → find_from m x k i ≡ Ok p → (look sent_index x (sents_of m i k) ≡ some (sent_at m p)) × (i ≤ p) × (p < i + k)
   unfolding find_from look sents_of sent_at
   find-look x zero i p e = nope (cc)
   find-look x (suc k) i p e =
-      pick-lt (λ (r : Found). r ≡ At p → (look sent_index x (sents_of m i (suc k)) ≡ some (sent_at m p)) × (i ≤ p) × (p < i + suc k))
-      (index_at m i) x (find_from m x k (i + 1)) (pick (eqb (index_at m i) x) (At i) (Vacant i))
+      pick-lt (λ (r : Result ℕ ℕ). r ≡ Ok p → (look sent_index x (sents_of m i (suc k)) ≡ some (sent_at m p)) × (i ≤ p) × (p < i + suc k))
+      (index_at m i) x (find_from m x k (i + 1)) (pick (eqb (index_at m i) x) (Ok i) (Err i))
       (λ l d. let r = find-look x k (i + 1) p d in
       (pick_no (index_at m i) x (some (sent_at m i)) (look sent_index x (sents_of m (i + 1) k)) (λ q. omega arith) ∙ r.0, omega (arith, r.1), omega (arith, r.2)))
-      (λ l. pick-eq (λ (r : Found). r ≡ At p → (look sent_index x (sents_of m i (suc k)) ≡ some (sent_at m p)) × (i ≤ p) × (p < i + suc k))
-      (index_at m i) x (At i) (Vacant i)
+      (λ l. pick-eq (λ (r : Result ℕ ℕ). r ≡ Ok p → (look sent_index x (sents_of m i (suc k)) ≡ some (sent_at m p)) × (i ≤ p) × (p < i + suc k))
+      (index_at m i) x (Ok i) (Err i)
       (λ q d. let z : i ≡ p = cc in
       (pick_yes (index_at m i) x (some (sent_at m i)) (look sent_index x (sents_of m (i + 1) k)) q ∙ ap (λ (j : ℕ). some (sent_at m j)) z, omega arith, omega arith))
       (λ q d. nope (cc)))
       e
 
-  pub find-look-none : (x k i lo p : ℕ) → Ascending sent_index lo (sents_of m i k) → find_from m x k i ≡ Vacant p → look sent_index x (sents_of m i k) ≡ none
+  pub find-look-none : (x k i lo p : ℕ) → Ascending sent_index lo (sents_of m i k) → find_from m x k i ≡ Err p → look sent_index x (sents_of m i k) ≡ none
   unfolding find_from look sents_of sent_at
   find-look-none x zero i lo p a e = refl
   find-look-none x (suc k) i lo p a e =
-      pick-lt (λ (r : Found). r ≡ Vacant p → look sent_index x (sents_of m i (suc k)) ≡ none)
-      (index_at m i) x (find_from m x k (i + 1)) (pick (eqb (index_at m i) x) (At i) (Vacant i))
+      pick-lt (λ (r : Result ℕ ℕ). r ≡ Err p → look sent_index x (sents_of m i (suc k)) ≡ none)
+      (index_at m i) x (find_from m x k (i + 1)) (pick (eqb (index_at m i) x) (Ok i) (Err i))
       (λ l d. pick_no (index_at m i) x (some (sent_at m i)) (look sent_index x (sents_of m (i + 1) k)) (λ q. omega arith)
       ∙ find-look-none x k (i + 1) (suc (index_at m i)) p a.1 d)
-      (λ l. pick-eq (λ (r : Found). r ≡ Vacant p → look sent_index x (sents_of m i (suc k)) ≡ none)
-      (index_at m i) x (At i) (Vacant i)
+      (λ l. pick-eq (λ (r : Result ℕ ℕ). r ≡ Err p → look sent_index x (sents_of m i (suc k)) ≡ none)
+      (index_at m i) x (Ok i) (Err i)
       (λ q d. nope (cc))
       (λ q d. pick_no (index_at m i) x (some (sent_at m i)) (look sent_index x (sents_of m (i + 1) k)) q
       ∙ look-below sent_index x (suc (index_at m i)) (sents_of m (i + 1) k) (omega arith) a.1))

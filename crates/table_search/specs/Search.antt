@@ -2,10 +2,10 @@
 use Rattle.std.specs.Prelude.{ℕ, zero, suc, ◌+◌, ◌≤◌, ◌<◌, List, length, eqb, ltb}
 use Rattle.memory.specs.Choice.{pick}
 use Rattle.state.specs.Layout.{front_length, count_of, index_at, offset_at, name_length_at}
-use Rattle.table_search.specs.declared.find.Found.{Found}
-use Rattle.table_search.specs.declared.find.Found.TheVariants.{At, Vacant}
+use Rattle.std.specs.Prelude.{Result, Ok, Err}
 
--- what searches rely on; memory that forms a state of either end has it
+-- what searches rely on; memory that forms a state of either end has it. It is a clause of each function of table_search, entry_places and name_search, and no
+-- ghost field: tried in name_search as a struct of the rows, whose every clause then says `self.entry.m.now` for `m.now`; callers would make it for each call
 pub record Ordered (m : List ℕ) : Type 0 where
   pub long : front_length ≤ length m
   pub few : count_of m ≤ 128
@@ -17,9 +17,9 @@ pub record Ordered (m : List ℕ) : Type 0 where
   pub text : (i : ℕ) → i < count_of m → offset_at m (i + 1) ≤ 4096
 
 -- the row with index x, of the k rows from row i on, the last; or the place at which it would stand
-unfoldable pub find_from : List ℕ → ℕ → ℕ → ℕ → Found
-find_from m x zero i = Vacant i
-find_from m x (suc k) i = pick (ltb (index_at m i) x) (find_from m x k (i + 1)) (pick (eqb (index_at m i) x) (At i) (Vacant i))
+unfoldable pub find_from : List ℕ → ℕ → ℕ → ℕ → Result ℕ ℕ
+find_from m x zero i = Err i
+find_from m x (suc k) i = pick (ltb (index_at m i) x) (find_from m x k (i + 1)) (pick (eqb (index_at m i) x) (Ok i) (Err i))
 
 -- "the lowest from 62 that is not held" is 62 and the place of the first row that stands above its own
 unfoldable pub vacant_row : List ℕ → ℕ → ℕ → ℕ

@@ -7,36 +7,27 @@ use integers::number::TableIndex;
 use state::head::count_of;
 use state::row::index_at;
 
-// The row with an index, or the place at which it would stand.
-#[derive(Drop)]
-pub enum Found {
-    At(usize),
-    Vacant(usize),
-}
-
 // Walks down from row `from`, which is above the index if there is one, to the row with this index.
-fn find_below(m: &[u8], index: TableIndex, from: usize) -> Found
+fn find_below(m: &[u8], index: TableIndex, from: usize) -> Result<usize, usize>
     requires { Ordered m.now × (from ≤ count_of m.now) × (from < count_of m.now → index.value < index_at m.now from) }
     ensures { result ≡ find_from m.now index.value (count_of m.now) 0 }
 {
     let x = index.value;
-    let mut left = from;
-    while 0 < left {
-        let y = index_at(m, left - 1);
+    for row in (0..from).rev() {
+        let y = index_at(m, row);
         if y <= x {
             if y == x {
-                return Found::At(left - 1);
+                return Ok(row);
             }
-            return Found::Vacant(left);
+            return Err(row + 1);
         }
-        left -= 1;
     }
-    Found::Vacant(0)
+    Err(0)
 }
 
 // Finds the row with this index. Rows ascend from 62, so it stands at the place index - 62 or below. In a dense table it stands there: that one look is
 // made here, so that callers have it inlined.
-pub fn find(m: &[u8], index: TableIndex) -> Found
+pub fn find(m: &[u8], index: TableIndex) -> Result<usize, usize>
     requires { (62 ≤ index.value) × Ordered m.now }
     ensures { result ≡ find_from m.now index.value (count_of m.now) 0 }
 {
@@ -46,7 +37,7 @@ pub fn find(m: &[u8], index: TableIndex) -> Found
         return find_below(m, index, count);
     }
     if index_at(m, first) == index.value {
-        return Found::At(first);
+        return Ok(first);
     }
     find_below(m, index, first)
 }
@@ -57,6 +48,7 @@ pub fn lowest_vacant(m: &[u8]) -> usize
     ensures { result ≡ vacant_row m.now (count_of m.now) 0 }
 {
     // The rows below `low` have the indexes from 62 on, and the row at `high` does not, if there is one. A row has its own only where all before it have theirs.
+    // No `partition_point`: the rows are bytes of lent memory, and no slice of rows.
     let mut low: usize = 0;
     let mut high = count_of(m) as usize;
     while low < high {

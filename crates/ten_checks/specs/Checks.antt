@@ -7,7 +7,7 @@ use Rattle.integers.specs.Integer.{int_wire}
 use Rattle.stream_lists.specs.StreamList.{StreamList, names}
 use Rattle.wire.specs.Name.{literal}
 use Rattle.instructions.specs.Instruction.{Instruction, insert, delete, acknowledge, instruction_wire}
-use Rattle.instructions.specs.Reading.{read_for_decoder, on_instruction, instruction_of}
+use Rattle.instructions.specs.Reading.{read_for_decoder, instruction_of}
 use Rattle.model.specs.Parts.{over, streams}
 use Rattle.model.specs.Encoder.{empty_list}
 use Rattle.state.specs.Layout.{held_of}
@@ -15,6 +15,7 @@ use Rattle.reply.specs.Result.{Result}
 use Rattle.decoder.specs.Calls as decoder
 use Rattle.link.specs.Calls.{DecoderCall, read, close, hold, decoder_result, decoder_after, done_bytes}
 use Rattle.link.specs.Calls as calls
+use Rattle.integers.specs.Answers.{on_read}
 
 -- ---- calls after a start
 
@@ -56,7 +57,7 @@ nontrailer_of (delete i nontrailer trailer) = nontrailer
 nontrailer_of (acknowledge i) = empty_list 0
 
 abbrev nontrailer_read : List ℕ → StreamList
-nontrailer_read s = on_instruction (λ number. empty_list 0) (read_for_decoder s) (λ p taken. nontrailer_of (instruction_of s p))
+nontrailer_read s = on_read (λ why. empty_list 0) (read_for_decoder s) (λ p taken. nontrailer_of (instruction_of s p))
 
 -- the streams that it names, of the n streams from k on
 unfoldable pub named_from : StreamList → ℕ → ℕ → List ℕ

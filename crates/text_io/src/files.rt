@@ -23,12 +23,7 @@ fn is_input(rt: &HostRuntime, i: usize) -> bool {
 
 // Does an argument before `i` stand for it?
 fn was_input(rt: &HostRuntime, i: usize) -> bool {
-    for earlier in 1..i {
-        if is_input(rt, earlier) {
-            return true;
-        }
-    }
-    false
+    (1..i).any(|earlier| is_input(rt, earlier))
 }
 
 // Opens the file that argument `i` names, `-` being the standard input, which is closed where an earlier argument was it; nothing where that cannot be done.
@@ -41,19 +36,13 @@ pub fn open_argument(rt: &HostRuntime, i: usize) -> Option<Source> {
         };
     }
     let mut path = io::buffer();
-    let Ok(n) = rt.arg(i, &mut path) else {
-        return None;
-    };
+    let n = rt.arg(i, &mut path).ok()?;
     open_read(rt, &path[..n])
 }
 
 // Opens the file with this path for reading; nothing where that cannot be done, as where the path is no UTF-8.
 pub fn open_read(rt: &HostRuntime, path: &[u8]) -> Option<Source> {
-    let Ok(text) = str::from_utf8(path) else {
-        return None;
-    };
-    match fs::open(rt, text) {
-        Ok(file) => Some(Source::File(file)),
-        Err(_) => None,
-    }
+    let text = str::from_utf8(path).ok()?;
+    let file = fs::open(rt, text).ok()?;
+    Some(Source::File(file))
 }

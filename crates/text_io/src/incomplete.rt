@@ -2,7 +2,7 @@
 use crate::print::{Text, byte, number, words, write_out};
 use crate::stream::Stream;
 
-#[derive(Clone, Copy)]
+#[derive(Clone, Copy, Debug, PartialEq, Eq)]
 pub enum Why {
     NotOpened,
     NotRead,

@@ -39,30 +39,20 @@ pub fn byte(out: &mut [u8], t: Text, c: u8) -> Text {
     let n = t.used;
     if n < out.len() {
         out[n] = c;
-        return Text {
-            used: n + 1,
-            lost: t.lost,
-            to: t.to,
-        };
+        return Text { used: n + 1, ..t };
     }
     let emptied = flush(out, t);
     if out.len() == 0 {
         return Text::lost(t.to);
     }
     out[0] = c;
-    Text {
-        used: 1,
-        lost: emptied.lost,
-        to: t.to,
-    }
+    Text { used: 1, ..emptied }
 }
 
 pub fn words(out: &mut [u8], t: Text, s: &[u8]) -> Text {
     let mut k = t;
-    let mut i: usize = 0;
-    while i < s.len() {
-        k = byte(out, k, s[i]);
-        i += 1;
+    for c in s {
+        k = byte(out, k, *c);
     }
     k
 }
@@ -92,31 +82,21 @@ pub fn pair(out: &mut [u8], t: Text, c: u8) -> Text {
 // Bytes as hexadecimal digits.
 pub fn bytes(out: &mut [u8], t: Text, s: &[u8]) -> Text {
     let mut k = t;
-    let mut i: usize = 0;
-    while i < s.len() {
-        k = pair(out, k, s[i]);
-        i += 1;
+    for c in s {
+        k = pair(out, k, *c);
     }
     k
 }
 
 // Writes what is gathered, and answers whether all of it was written.
 pub fn write_out(out: &[u8], t: Text) -> bool {
-    let n = t.used;
-    if n < out.len() {
-        return t.to.write(&out[..n]);
-    }
-    t.to.write(out)
+    t.to.write(out.get(..t.used).unwrap_or(out))
 }
 
 // Writes what is gathered; nothing of the buffer is in use then.
 pub fn flush(out: &[u8], t: Text) -> Text {
     if write_out(out, t) {
-        return Text {
-            used: 0,
-            lost: t.lost,
-            to: t.to,
-        };
+        return Text { used: 0, ..t };
     }
     Text::lost(t.to)
 }

@@ -29,6 +29,7 @@ impl Stream {
     // Writes all of these bytes, and answers whether it did; a write that takes nothing or fails is the last one.
     pub fn write(self, s: &[u8]) -> bool {
         let mut done: usize = 0;
+        // A step is as long as the write says, so no iterator of fixed steps is plainer.
         while done < s.len() {
             let Ok(n) = self.write_some(&s[done..]) else {
                 return false;

@@ -1,3 +1,4 @@
 -- What words say.
 pub mod Numbers
 pub mod Counts
+pub mod Words

@@ -1,10 +1,8 @@
 // Lines of text, and bytes written as hexadecimal digits: what the programs that read vectors share.
-ghost use Rattle.std.specs.Prelude.{ℕ, ◌≤◌, length};
+ghost use Rattle.std.specs.Prelude.{ℕ, ◌<◌, ◌≤◌, length, IfSome};
 ghost use Rattle.tokens.specs.Counts.{Counts};
 
-use crate::find;
-
-// The base of the digits, which is the value of none.
+// The base of the digits.
 pub const BASE: u8 = 16;
 
 // The end of the line that begins at the place `at`: its newline, or the end of the text.
@@ -12,17 +10,20 @@ pub fn line_end(text: &[u8], at: usize) -> usize
     requires { at ≤ length text.now }
     ensures { (at ≤ result) × (result ≤ length text.now) }
 {
-    find(text, at, b'\n')
+    match text[at..].iter().position(|c| *c == b'\n') {
+        Some(n) => at + n,
+        None => text.len(),
+    }
 }
 
-// The value of a hexadecimal digit in lower case, and `BASE` for any other character.
-pub fn digit(c: u8) -> u8
-    ensures { result ≤ 16 }
+// The value of a hexadecimal digit in lower case.
+pub fn digit(c: u8) -> Option<u8>
+    ensures { IfSome result (λ d. d < 16) }
 {
     match c {
-        b'0'..=b'9' => c - b'0',
-        b'a'..=b'f' => c - b'a' + 10,
-        _ => BASE,
+        b'0'..=b'9' => Some(c - b'0'),
+        b'a'..=b'f' => Some(c - b'a' + 10),
+        _ => None,
     }
 }
 
@@ -31,25 +32,22 @@ pub fn digit(c: u8) -> u8
 pub fn unhex(text: &[u8], from: usize, out: &mut [u8]) -> usize
     ensures { Counts result out.new }
 {
-    let mut n: usize = 0;
-    let mut high: u8 = BASE;
-    let mut i = from;
-    while i < text.len() {
-        let d = digit(text[i]);
-        i += 1;
-        if d == BASE {
+    let mut n = 0;
+    let mut high = None;
+    for c in text.iter().skip(from) {
+        let Some(low) = digit(*c) else {
             continue;
-        }
-        if high == BASE {
-            high = d;
+        };
+        let Some(h) = high else {
+            high = Some(low);
             continue;
-        }
+        };
         if n == out.len() {
             return n;
         }
-        out[n] = high * BASE + d;
+        out[n] = h * BASE + low;
         n += 1;
-        high = BASE;
+        high = None;
     }
     n
 }

@@ -1,187 +1,140 @@
-// The words of a line of text: where they stand, and the numbers and bytes that they say.
+// The words of a line of text, and the numbers and bytes that they say.
 #![tactic(auto)]
 
-ghost use Rattle.std.specs.Prelude.{◌≡◌, ℕ, ◌≤◌, length};
+ghost use Rattle.std.specs.Prelude.{◌≡◌, ℕ, ◌<◌, ◌≤◌, length, not, [], IfSome, MatchOption, position};
+ghost use Rattle.std.specs.List.{position_or_len};
+ghost use Rattle.std.specs.Iterator.{at_most};
 ghost use Rattle.memory.specs.Compare.{same as alike};
 ghost use Rattle.tokens.specs.Numbers.{digit_of, number_of};
+ghost use Rattle.tokens.specs.Words.{separates, from_word, first_word, behind_word};
 
 pub mod hex;
 
 use crate::hex::digit;
-use memory::compare::same;
-
 // How many bytes one word can say.
 pub const MOST_BYTES: usize = 20_000;
 
 // The base of the numbers.
 const BASE: u64 = 10;
 
-// Where a word stands in its line: from the place `from` up to the place `to`.
-#[derive(Drop)]
-pub struct Word {
-    pub from: usize,
-    pub to: usize,
-}
-
-// What reading a number finds.
-#[derive(Drop)]
-pub enum NumberRead {
-    Value(u64),
-    Bad,
-}
-
-// What reading bytes finds: the place after the last one put.
-#[derive(Drop)]
-pub enum BytesRead {
-    Put(usize),
-    Bad,
+// The words of a line that are still to be read: those of `rest`.
+#[derive(Clone, Copy, Debug)]
+pub struct Words<'a> {
+    rest: &'a [u8],
 }
 
 // Does the character separate words? Spaces and tabs do, and carriage returns, so that either kind of line end can be read.
-fn separates(c: u8) -> bool {
-    match c {
-        b' ' | b'\t' | b'\r' => true,
-        _ => false,
-    }
-}
-
-// The place of the first character from the place `at` on that separates no words, or a place behind the text.
-fn past_spaces(text: &[u8], at: usize) -> usize {
-    let mut i = at;
-    while i < text.len() {
-        if !separates(text[i]) {
-            return i;
-        }
-        i += 1;
-    }
-    i
-}
-
-// The place of the first character from the place `at` on that separates words, or the end of the text.
-fn word_end(text: &[u8], at: usize) -> usize
-    requires { at ≤ length text.now }
-    ensures { (at ≤ result) × (result ≤ length text.now) }
+fn separates(c: u8) -> bool
+    ensures { result ≡ separates c }
 {
-    let mut i = at;
-    while i < text.len() {
-        if separates(text[i]) {
-            return i;
-        }
-        i += 1;
-    }
-    i
+    matches!(c, b' ' | b'\t' | b'\r')
 }
 
-// The place of the first such character from the place `at` on, or the end of the text.
-pub fn find(text: &[u8], at: usize, c: u8) -> usize
-    requires { at ≤ length text.now }
-    ensures { (at ≤ result) × (result ≤ length text.now) }
+// The place of the first character that separates no words.
+fn word_start(text: &[u8]) -> Option<usize>
+    ensures value { result ≡ position (λ c. not (separates c)) text.now }
+    ensures bound { IfSome result (λ from. from < length text.now) }
 {
-    let mut i = at;
-    while i < text.len() {
-        if text[i] == c {
-            return i;
-        }
-        i += 1;
-    }
-    i
+    text.iter().position(|c| !separates(*c))
 }
 
-// The first word from the place `at` on; where none is left, an empty one at the end of the text.
-pub fn next_word(text: &[u8], at: usize) -> Word
-    ensures { (result.from ≤ result.to) × (result.to ≤ length text.now) }
+// The place of the first character that separates words.
+fn word_break(text: &[u8]) -> Option<usize>
+    ensures value { result ≡ position separates text.now }
+    ensures bound { IfSome result (λ to. to < length text.now) }
 {
-    let from = past_spaces(text, at);
-    if text.len() <= from {
-        return Word {
-            from: text.len(),
-            to: text.len(),
-        };
-    }
-    let to = word_end(text, from);
-    Word { from, to }
+    text.iter().position(|c| separates(*c))
 }
 
-// Is the word this one?
+// That place, or the end of the text.
+fn word_end(text: &[u8]) -> usize
+    ensures value { result ≡ position_or_len separates text.now }
+    ensures bound { result ≤ length text.now }
+{
+    word_break(text).unwrap_or(text.len())
+}
+
+impl<'a> Words<'a> {
+    pub fn of(text: &'a [u8]) -> Words<'a>
+        ensures { result.rest.now ≡ text.now }
+    {
+        Words { rest: text }
+    }
+}
+
+impl<'a> Iterator for Words<'a> {
+    type Item = &'a [u8];
+
+    // The first word of what is left, and what stands behind it is left; nothing, where no word is left.
+    ghost next_gives = { λ s r t. MatchOption r (from_word s.rest.now ≡ []) (λ word. (word.now ≡ first_word s.rest.now) × (t.rest.now ≡ behind_word s.rest.now)) };
+
+    ghost remaining = { λ s. at_most (length s.rest.now) };
+
+    fn next(&mut self) -> Option<&'a [u8]> {
+        let from = word_start(self.rest)?;
+        let text = &self.rest[from..];
+        let (word, rest) = text.split_at(word_end(text));
+        self.rest = rest;
+        Some(word)
+    }
+}
+
+// Is the word this one? A function over `==`, as callers' contracts speak of `memory`'s own comparison.
 pub fn is(word: &[u8], other: &[u8]) -> bool
     ensures { result ≡ alike word.now other.now }
 {
-    if word.len() != other.len() {
-        return false;
-    }
-    same(word, 0, other, 0, word.len())
+    word == other
 }
 
-// The value of a decimal digit, and `BASE` for any other character.
-fn decimal_digit(c: u8) -> u64
-    ensures { (result ≡ digit_of c) × (result ≤ 10) }
+// The value of a decimal digit.
+#[tactic(auto, unfolding(crate::specs::Numbers::digit_of))]
+fn decimal_digit(c: u8) -> Option<u8>
+    ensures { MatchOption result (digit_of c ≡ 10) (λ d. (d ≡ digit_of c) × (d < 10)) }
 {
     match c {
-        b'0'..=b'9' => (c - b'0') as u64,
-        _ => BASE,
+        b'0'..=b'9' => Some(c - b'0'),
+        _ => None,
     }
 }
 
-// The value of a hexadecimal digit in either case, and `hex::BASE` for any other character.
-fn hex_digit(c: u8) -> u8
-    ensures { result ≤ 16 }
+// The value of a hexadecimal digit in either case.
+fn hex_digit(c: u8) -> Option<u8>
+    ensures { IfSome result (λ d. d < 16) }
 {
-    match c {
-        b'A'..=b'F' => c - b'A' + 10,
-        _ => digit(c),
-    }
+    digit(c.to_ascii_lowercase())
 }
 
 // The number that a word says in decimal digits, if it is at most 2^64 - 1.
-pub fn number(word: &[u8]) -> NumberRead
+pub fn number(word: &[u8]) -> Option<u64>
     ensures { result ≡ number_of word.now }
 {
-    if word.len() == 0 {
-        return NumberRead::Bad;
+    if word.is_empty() {
+        return None;
     }
     let mut n: u64 = 0;
-    let mut i: usize = 0;
-    while i < word.len() {
-        let d = decimal_digit(word[i]);
-        if d == BASE {
-            return NumberRead::Bad;
-        }
-        if (u64::MAX - d) / BASE < n {
-            return NumberRead::Bad;
-        }
-        n = n * BASE + d;
-        i += 1;
+    for c in word {
+        let d = decimal_digit(*c)?;
+        n = n.checked_mul(BASE)?.checked_add(u64::from(d))?;
     }
-    NumberRead::Value(n)
+    Some(n)
 }
 
-// Puts the bytes that a word says into `out`, from the place `at` on.
-pub fn bytes(word: &[u8], out: &mut [u8], at: usize) -> BytesRead {
+// Puts the bytes that a word says into `out`, from the place `at` on, and answers the place after them.
+pub fn bytes(word: &[u8], out: &mut [u8], at: usize) -> Option<usize>
+    ensures { at ≤ length out.old → IfSome result (λ n. n ≤ length out.new) }
+{
     if is(word, b"-") {
-        return BytesRead::Put(at);
+        return Some(at);
     }
     let n = word.len() / 2;
     if n == 0 || word.len() % 2 != 0 || MOST_BYTES < n {
-        return BytesRead::Bad;
+        return None;
     }
-    if out.len() < at {
-        return BytesRead::Bad;
+    if out.len() < at || out.len() - at < n {
+        return None;
     }
-    if out.len() - at < n {
-        return BytesRead::Bad;
+    for (byte, digits) in out[at..].iter_mut().zip(word.chunks_exact(2)) {
+        *byte = hex::BASE * hex_digit(digits[0])? + hex_digit(digits[1])?;
     }
-    let mut i: usize = 0;
-    while i < n {
-        let high = hex_digit(word[2 * i]);
-        if high == hex::BASE {
-            return BytesRead::Bad;
-        }
-        let low = hex_digit(word[2 * i + 1]);
-        if low == hex::BASE {
-            return BytesRead::Bad;
-        }
-        out[at + i] = hex::BASE * high + low;
-        i += 1;
-    }
-    BytesRead::Put(at + n)
+    Some(at + n)
 }

@@ -1,10 +1,9 @@
 // The lines of a recording as they are run: calls, and lines that are none.
-use falling_hours::falls::RECORDS;
 use integers::answer::DONE;
 use link_events::events::{Event, Side, event_of, role_of, side_of};
-use link_notes::notes::{NOTES, forget_waiting, note_over};
-use link_notes::sums::block_sum;
-use link_state::written::{begin_table, note_written};
+use link_notes::notes::Notes;
+use link_notes::sums::Block;
+use machines::keep::Machines;
 use readable::form::filled;
 use recording::{Call, Fault, Kind};
 use reply::Reply;
@@ -21,10 +20,7 @@ const TRAILER: u64 = 1;
 
 // The first `n` bytes, or all where there are not so many.
 fn front<'a>(s: &'a [u8], n: usize) -> &'a [u8] {
-    if n < s.len() {
-        return &s[..n];
-    }
-    s
+    &s[..n.min(s.len())]
 }
 
 // A line that is no call.
@@ -45,8 +41,8 @@ pub fn answered(
     r: Reply,
     bytes: &[u8],
     output: &[u8],
-    notes: &mut [u64; NOTES],
-    machines: &mut [u64; RECORDS],
+    notes: &mut Notes,
+    machines: &mut Machines,
 ) -> Log {
     let counted = log.counting(Count::Calls);
     let kind = call.kind;
@@ -70,8 +66,7 @@ pub fn answered(
 // How many bytes of a read are left over.
 fn left_over(count: usize, taken: u32) -> u64 {
     let n = count as u64;
-    let k = taken as u64;
-    if n < k { 0 } else { n - k }
+    n.saturating_sub(u64::from(taken))
 }
 
 // Another call than a block offered to the decoder.
@@ -81,8 +76,8 @@ fn other(
     line: u64,
     call: Call,
     r: Reply,
-    notes: &mut [u64; NOTES],
-    machines: &mut [u64; RECORDS],
+    notes: &mut Notes,
+    machines: &mut Machines,
 ) -> Log {
     let kind = call.kind;
     let side = side_of(kind);
@@ -90,30 +85,27 @@ fn other(
     let event = event_of(role, r.number, left_over(call.end, r.first));
     let ends = log.ends;
     let next = log.with_ends(ends.after_call(side, role, event, line));
-    if let Event::Started = event {
-        return started(out, next, line, side, notes, machines);
-    }
-    eventful(out, next, line, kind, event, r.number)
-}
-
-// The line of a call that is refused, cut short or left bytes over.
-fn eventful(out: &mut [u8], log: Log, line: u64, kind: Kind, event: Event, answer: u8) -> Log {
-    let t = log.text;
     match event {
-        Event::Quiet | Event::Started => log,
-        Event::LeftOver(count) => {
-            log.telling(
+        None => next,
+        Some(Event::Started) => started(out, next, line, side, notes, machines),
+        Some(Event::LeftOver(count)) => {
+            let t = next.text;
+            next.telling(
                 Count::LeftOver,
                 1,
                 lines::left_line(out, t, line, kind, count),
             )
         }
-        Event::CutShort => log.telling(Count::CutShort, 1, lines::cut_line(out, t, line, kind)),
-        Event::Refused => {
-            log.telling(
+        Some(Event::CutShort) => {
+            let t = next.text;
+            next.telling(Count::CutShort, 1, lines::cut_line(out, t, line, kind))
+        }
+        Some(Event::Refused) => {
+            let t = next.text;
+            next.telling(
                 Count::CallsRefused,
                 1,
-                lines::refused_line(out, t, line, kind, answer),
+                lines::refused_line(out, t, line, kind, r.number),
             )
         }
     }
@@ -125,8 +117,8 @@ fn started(
     log: Log,
     line: u64,
     side: Side,
-    notes: &mut [u64; NOTES],
-    machines: &mut [u64; RECORDS],
+    notes: &mut Notes,
+    machines: &mut Machines,
 ) -> Log {
     match side {
         Side::Decoder => decoder_started(out, log, line, notes, machines),
@@ -146,12 +138,12 @@ fn decoder_started(
     out: &mut [u8],
     log: Log,
     line: u64,
-    notes: &mut [u64; NOTES],
-    machines: &mut [u64; RECORDS],
+    notes: &mut Notes,
+    machines: &mut Machines,
 ) -> Log {
-    let told = still_waiting(out, log, line, notes);
-    forget_waiting(notes);
-    machines::keep::begin_table(machines);
+    let told = still_waiting(out, log, Some(line), notes);
+    notes.forget_waiting();
+    machines.begin_table();
     let t = told.text;
     let a = anew(
         out,
@@ -163,9 +155,9 @@ fn decoder_started(
     told.with_text(a)
 }
 
-fn encoder_started(out: &mut [u8], log: Log, line: u64, notes: &mut [u64; NOTES]) -> Log {
+fn encoder_started(out: &mut [u8], log: Log, line: u64, notes: &mut Notes) -> Log {
     let table = log.ends.encoder.table;
-    begin_table(notes, table);
+    notes.begin_table(table);
     let t = log.text;
     let a = anew(
         out,
@@ -186,30 +178,28 @@ fn noted(
     call: Call,
     put: &[u8],
     wrote: &[u8],
-    notes: &mut [u64; NOTES],
+    notes: &mut Notes,
 ) -> Log {
     let kind = call.kind;
     let stream = call.first;
     if let Kind::EncoderBlock = kind {
-        note_written(
-            notes,
+        notes.note_written(
             log.ends.encoder.table,
             stream,
             call.second,
-            block_sum(wrote, b""),
-            block_sum(wrote, put),
+            Block::of(wrote, put),
         );
         return log;
     }
     if let Kind::DecoderOver = kind {
         let told = waiting_message(out, log, line, notes, stream);
-        note_over(notes, stream, MESSAGE);
+        notes.note_over(stream, MESSAGE);
         return told;
     }
     if let Kind::DecoderEnded = kind {
         let told = waiting_stream(out, log, line, notes, stream);
-        note_over(notes, stream, MESSAGE);
-        note_over(notes, stream, TRAILER);
+        notes.note_over(stream, MESSAGE);
+        notes.note_over(stream, TRAILER);
         return told;
     }
     log

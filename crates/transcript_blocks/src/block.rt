@@ -1,13 +1,13 @@
 // A header block offered to the decoder: its line, and those behind it.
-use falling_hours::falls::{Fall, RECORDS};
+use falling_hours::falls::{Fall, StreamHours};
 use integers::answer::{DONE, WAITS};
-use link_notes::notes::{NOTES, note_answered, note_waiting};
+use link_notes::notes::Notes;
 use link_notes::sums::block_sum;
 use link_state::doubt::{Doubt, doubt_of};
-use machines::keep::{Told, keep};
+use machines::keep::Machines;
 use readable::form::{end_line, filled};
 use reply::Reply;
-use reports::report::{Judged, TrailerJudged, judge, judge_trailer, text_at};
+use reports::report::{NoReport, judge, judge_trailer, text_at};
 use text_io::print::Text;
 use transcript_lines::hours;
 use transcript_log::log::Log;
@@ -31,8 +31,8 @@ pub fn offered(
     r: Reply,
     block: &[u8],
     given: &[u8],
-    notes: &mut [u64; NOTES],
-    machines: &mut [u64; RECORDS],
+    notes: &mut Notes,
+    machines: &mut Machines,
 ) -> Log {
     noted(notes, o, r, block);
     if r.number == DONE {
@@ -42,13 +42,13 @@ pub fn offered(
 }
 
 // Notes whether the block waits. It is known by its bytes: no list is given of it yet.
-fn noted(notes: &mut [u64; NOTES], o: Offer, r: Reply, block: &[u8]) {
+fn noted(notes: &mut Notes, o: Offer, r: Reply, block: &[u8]) {
     let sum = block_sum(block, b"");
     if r.number == WAITS {
-        note_waiting(notes, o.stream, o.part, sum);
+        notes.note_waiting(o.stream, o.part, sum);
         return;
     }
-    note_answered(notes, o.stream, o.part, sum);
+    notes.note_answered(o.stream, o.part, sum);
 }
 
 fn not_done(out: &mut [u8], log: Log, o: Offer, r: Reply) -> Log {
@@ -76,8 +76,8 @@ fn done(
     o: Offer,
     block: &[u8],
     given: &[u8],
-    notes: &[u64; NOTES],
-    machines: &mut [u64; RECORDS],
+    notes: &Notes,
+    machines: &mut Machines,
 ) -> Log {
     let t = log.text;
     let counted = log.counting(Count::BlocksDone);
@@ -100,13 +100,13 @@ fn judged(
     log: Log,
     t: Text,
     o: Offer,
-    d: Doubt,
+    d: Option<Doubt>,
     given: &[u8],
-    machines: &mut [u64; RECORDS],
+    machines: &mut Machines,
 ) -> Log {
     match d {
-        Doubt::Nothing => message(out, log, t, o, given, machines),
-        Doubt::Broken(line) => {
+        None => message(out, log, t, o, given, machines),
+        Some(Doubt::Broken(line)) => {
             doubted(
                 out,
                 log,
@@ -115,7 +115,7 @@ fn judged(
                 line,
             )
         }
-        Doubt::NotAsWritten(table) => {
+        Some(Doubt::NotAsWritten(table)) => {
             doubted(
                 out,
                 log,
@@ -135,12 +135,9 @@ fn doubted(out: &mut [u8], log: Log, t: Text, words: &[u8], n: u64) -> Log {
 
 // A trailer gives no hours.
 fn trailer(out: &mut [u8], log: Log, t: Text, given: &[u8]) -> Log {
-    let j = judge_trailer(given);
-    match j {
-        TrailerJudged::Without | TrailerJudged::NoList => log.with_text(end_line(out, t)),
-        TrailerJudged::Has(named) => {
-            log.telling(Count::Unclear, 1, hours::in_trailer(out, t, named))
-        },
+    match judge_trailer(given) {
+        Err(_) | Ok(None) => log.with_text(end_line(out, t)),
+        Ok(Some(named)) => log.telling(Count::Unclear, 1, hours::in_trailer(out, t, named)),
     }
 }
 
@@ -151,22 +148,21 @@ fn message(
     t: Text,
     o: Offer,
     given: &[u8],
-    machines: &mut [u64; RECORDS],
+    machines: &mut Machines,
 ) -> Log {
-    let j = judge(given);
-    match j {
-        Judged::NoList => log.with_text(end_line(out, t)),
-        Judged::Unclear(named, why) => {
+    match judge(given) {
+        Err(NoReport::NoList) => log.with_text(end_line(out, t)),
+        Err(NoReport::Unclear(named, why)) => {
             log.telling(Count::Unclear, 1, hours::no_report(out, t, named, why))
-        },
-        Judged::Report(place, tenths) => {
-            let a = hours::told(out, t, tenths);
+        }
+        Ok(report) => {
+            let a = hours::told(out, t, report.tenths);
             compared(
                 out,
                 log.with_text(a),
                 o,
-                text_at(given, place),
-                tenths,
+                text_at(given, report.machine),
+                report.tenths,
                 machines,
             )
         }
@@ -180,23 +176,20 @@ fn compared(
     o: Offer,
     machine: &[u8],
     tenths: u32,
-    machines: &mut [u64; RECORDS],
+    machines: &mut Machines,
 ) -> Log {
-    let k = keep(machines, machine, log.ends.decoder.table, o.stream, tenths);
+    let report = StreamHours {
+        stream: o.stream,
+        tenths,
+    };
+    let kept = machines.keep(machine, log.ends.decoder.table, report);
     let t = log.text;
-    match k {
-        Told::NotKept => {
-            log.telling(Count::NotKept, 1, hours::not_kept(out, t, o.line, machine))
+    match kept {
+        Err(_) => log.telling(Count::NotKept, 1, hours::not_kept(out, t, o.line, machine)),
+        Ok(None) => log,
+        Ok(Some(fall)) => {
+            let a = hours::falls(out, t, o.line, machine, report, fall);
+            log.telling(Count::Falls, 1, a)
         }
-        Told::Compared(fall) => fallen(out, log, o, machine, tenths, fall),
     }
-}
-
-fn fallen(out: &mut [u8], log: Log, o: Offer, machine: &[u8], tenths: u32, fall: Fall) -> Log {
-    if let Fall::Nothing = fall {
-        return log;
-    }
-    let t = log.text;
-    let a = hours::falls(out, t, o.line, machine, o.stream, tenths, fall);
-    log.telling(Count::Falls, 1, a)
 }

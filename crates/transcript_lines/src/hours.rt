@@ -1,44 +1,41 @@
 // What a line says of the hours of a block, and the lines behind it.
-use falling_hours::falls::Fall;
+use falling_hours::falls::{Fall, StreamHours};
 use falling_hours::standing::Standing;
-use labels::entry;
 use readable::form::{end_line, filled};
 use reports::report::{Named, Why};
-use text_io::print::Text;
+use text_io::print::{Text, words};
 
 // ` = HOURS hours`
 pub fn told(out: &mut [u8], t: Text, tenths: u32) -> Text {
-    filled(out, t, b" = ~ hours\n", [tenths as u64, 0, 0, 0])
+    filled(out, t, b" = ~ hours\n", [u64::from(tenths), 0, 0, 0])
 }
 
-fn named_place(named: Named) -> usize {
+fn named_words(named: Named) -> &'static [u8] {
     match named {
-        Named::Machine => 0,
-        Named::Hours => 1,
-        Named::Turns => 2,
+        Named::Machine => b"machine",
+        Named::Hours => b"hours",
+        Named::Turns => b"turns",
     }
 }
 
-// How a field fails, as a line of the table in `unclear`.
-fn failing(named: Named, why: Why) -> usize {
+// How a field fails.
+fn failing(named: Named, why: Why) -> &'static [u8] {
     match why {
-        Why::Missing => 0,
-        Why::MoreThanOnce => 1,
+        Why::Missing => b" missing",
+        Why::MoreThanOnce => b" more than once",
         Why::OutOfRange => match named {
-            Named::Machine => 2,
-            Named::Hours | Named::Turns => 3,
+            Named::Machine => b" not 1 to 15 printable characters",
+            Named::Hours | Named::Turns => b" not a number of 0 to 65535",
         },
     }
 }
 
 // That hours are unclear, the field by which they are, and how.
-fn unclear(out: &mut [u8], t: Text, named: Named, how: usize) -> Text {
-    let names = b" = hours unclear: machine\n = hours unclear: hours\n = hours unclear: turns\n";
-    let table =
-        b" missing\n more than once\n not 1 to 15 printable characters\n not a number of 0 to 65535\n in a trailer\n";
-    let a = entry(out, t, names, named_place(named));
-    let b = entry(out, a, table, how);
-    end_line(out, b)
+fn unclear(out: &mut [u8], t: Text, named: Named, how: &[u8]) -> Text {
+    let a = words(out, t, b" = hours unclear: ");
+    let b = words(out, a, named_words(named));
+    let c = words(out, b, how);
+    end_line(out, c)
 }
 
 // The block is no report.
@@ -47,7 +44,7 @@ pub fn no_report(out: &mut [u8], t: Text, named: Named, why: Why) -> Text {
 }
 
 pub fn in_trailer(out: &mut [u8], t: Text, named: Named) -> Text {
-    unclear(out, t, named, 4)
+    unclear(out, t, named, b" in a trailer")
 }
 
 // `line LINE: machine MACHINE`
@@ -62,8 +59,13 @@ pub fn not_kept(out: &mut [u8], t: Text, line: u64, machine: &[u8]) -> Text {
 }
 
 // Two reports of one table, the higher stream first.
-fn two(out: &mut [u8], t: Text, stream: u64, tenths: u32, lower: u64, more: u32) -> Text {
-    let numbers = [tenths as u64, stream, more as u64, lower];
+fn two(out: &mut [u8], t: Text, higher: StreamHours, lower: StreamHours) -> Text {
+    let numbers = [
+        u64::from(higher.tenths),
+        higher.stream,
+        u64::from(lower.tenths),
+        lower.stream,
+    ];
     filled(
         out,
         t,
@@ -73,11 +75,10 @@ fn two(out: &mut [u8], t: Text, stream: u64, tenths: u32, lower: u64, more: u32)
 }
 
 // What the hours of the message on this stream fall against.
-fn against(out: &mut [u8], t: Text, stream: u64, tenths: u32, fall: Fall) -> Text {
+fn against(out: &mut [u8], t: Text, report: StreamHours, fall: Fall) -> Text {
     match fall {
-        Fall::Nothing => t,
         Fall::BeforeStart(most) => {
-            let numbers = [tenths as u64, stream, most as u64, 0];
+            let numbers = [u64::from(report.tenths), report.stream, u64::from(most), 0];
             filled(
                 out,
                 t,
@@ -85,8 +86,8 @@ fn against(out: &mut [u8], t: Text, stream: u64, tenths: u32, fall: Fall) -> Tex
                 numbers,
             )
         }
-        Fall::Below(lower, more) => two(out, t, stream, tenths, lower, more),
-        Fall::Above(higher, fewer) => two(out, t, higher, fewer, stream, tenths),
+        Fall::Below(lower) => two(out, t, report, lower),
+        Fall::Above(higher) => two(out, t, higher, report),
     }
 }
 
@@ -96,19 +97,18 @@ pub fn falls(
     t: Text,
     line: u64,
     machine: &[u8],
-    stream: u64,
-    tenths: u32,
+    report: StreamHours,
     fall: Fall,
 ) -> Text {
     let a = of_machine(out, t, line, machine);
-    against(out, a, stream, tenths, fall)
+    against(out, a, report, fall)
 }
 
 // Where a machine stands, at the end. Where a later report may be missing, these are the fewest hours that it can have.
 pub fn standing(out: &mut [u8], t: Text, machine: &[u8], s: Standing, may_miss: bool) -> Text {
     let a = filled(out, t, b"machine ", [0, 0, 0, 0]);
     let b = readable::name(out, a, machine);
-    let numbers = [s.tenths as u64, s.table, s.stream, 0];
+    let numbers = [u64::from(s.latest.tenths), s.table, s.latest.stream, 0];
     if may_miss {
         return filled(out, b, b": ~ hours or more, table #, stream #\n", numbers);
     }

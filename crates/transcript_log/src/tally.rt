@@ -7,7 +7,7 @@ pub const COUNTS: usize = 12;
 // What is counted, in the order of the last line: calls and bad lines; of the blocks offered to the decoder those done and refused, the offers
 // told to wait, and the blocks still waiting; of the other calls those refused, cut short and with bytes left over; and blocks with unclear
 // hours, messages whose hours fall, and reports of machines that are not kept.
-#[derive(Drop)]
+#[derive(Clone, Copy, Debug, PartialEq, Eq)]
 pub enum Count {
     Calls,
     BadLines,
@@ -31,25 +31,7 @@ pub struct Tally {
 fn place(count: Count) -> usize
     ensures { result ≤ 11 }
 {
-    match count {
-        Count::Calls => 0,
-        Count::BadLines => 1,
-        Count::BlocksDone => 2,
-        Count::BlocksRefused => 3,
-        Count::ToldToWait => 4,
-        Count::StillWaiting => 5,
-        Count::CallsRefused => 6,
-        Count::CutShort => 7,
-        Count::LeftOver => 8,
-        Count::Unclear => 9,
-        Count::Falls => 10,
-        Count::NotKept => 11,
-    }
-}
-
-// The sum, up to the largest number.
-fn sum(a: u64, b: u64) -> u64 {
-    if a <= u64::MAX - b { a + b } else { u64::MAX }
+    count as usize
 }
 
 impl Tally {
@@ -62,7 +44,7 @@ impl Tally {
     // This many more.
     pub fn with(mut self, count: Count, n: u64) -> Tally {
         let k = place(count);
-        self.counts[k] = sum(self.counts[k], n);
+        self.counts[k] = self.counts[k].saturating_add(n);
         self
     }
 

@@ -3,7 +3,7 @@ ghost use Rattle.std.specs.Prelude.{◌≤◌};
 
 use crate::log::Log;
 use crate::tally::Count;
-use link_notes::notes::{ALL_PARTS, NOTES, is_waiting};
+use link_notes::notes::{ALL_PARTS, Notes};
 use readable::form::{end_line, filled};
 use text_io::print;
 use text_io::print::Text;
@@ -19,14 +19,8 @@ fn first_of(stream: u64) -> usize
 }
 
 // How many parts from one place up to another have blocks that wait.
-fn count(notes: &[u64; NOTES], from: usize, to: usize) -> u64 {
-    let mut n: u64 = 0;
-    for k in from..to {
-        if is_waiting(notes, k) {
-            n += 1;
-        }
-    }
-    n
+fn count(notes: &Notes, from: usize, to: usize) -> u64 {
+    (from..to).filter(|k| notes.is_waiting(*k)).count() as u64
 }
 
 // One of them, by its place; a comma before each but the first.
@@ -39,32 +33,26 @@ fn one(out: &mut [u8], t: Text, first: bool, k: usize) -> Text {
 }
 
 // In the order of streams, the message before the trailer.
-fn list(out: &mut [u8], t: Text, notes: &[u64; NOTES], from: usize, to: usize) -> Text {
+fn list(out: &mut [u8], t: Text, notes: &Notes, from: usize, to: usize) -> Text {
     let mut a = t;
     let mut first = true;
-    let mut k: usize = from;
-    while k < to {
-        if !is_waiting(notes, k) {
-            k += 1;
-            continue;
-        }
+    for k in (from..to).filter(|k| notes.is_waiting(*k)) {
         a = one(out, a, first, k);
         first = false;
-        k += 1;
     }
     a
 }
 
-// The line of a call; none at the end, which is line 0.
-fn heading(out: &mut [u8], t: Text, line: u64) -> Text {
-    if line == 0 {
-        return print::words(out, t, b"still waiting: ");
+// The line of a call; none at the end.
+fn heading(out: &mut [u8], t: Text, line: Option<u64>) -> Text {
+    match line {
+        Some(n) => filled(out, t, b"line #: still waiting: ", [n, 0, 0, 0]),
+        None => print::words(out, t, b"still waiting: "),
     }
-    filled(out, t, b"line #: still waiting: ", [line, 0, 0, 0])
 }
 
 // Names and counts those from one place up to another, where there are any.
-fn told(out: &mut [u8], log: Log, line: u64, notes: &[u64; NOTES], from: usize, to: usize) -> Log {
+fn told(out: &mut [u8], log: Log, line: Option<u64>, notes: &Notes, from: usize, to: usize) -> Log {
     let n = count(notes, from, to);
     if n == 0 {
         return log;
@@ -75,31 +63,19 @@ fn told(out: &mut [u8], log: Log, line: u64, notes: &[u64; NOTES], from: usize, 
     log.telling(Count::StillWaiting, n, end_line(out, b))
 }
 
-// All of them: at a start of the decoder with its line, at the end with 0.
-pub fn still_waiting(out: &mut [u8], log: Log, line: u64, notes: &[u64; NOTES]) -> Log {
+// All of them: at a start of the decoder with its line, at the end with none.
+pub fn still_waiting(out: &mut [u8], log: Log, line: Option<u64>, notes: &Notes) -> Log {
     told(out, log, line, notes, 0, ALL_PARTS)
 }
 
 // Those of a message, told as over at this line.
-pub fn waiting_message(
-    out: &mut [u8],
-    log: Log,
-    line: u64,
-    notes: &[u64; NOTES],
-    stream: u64,
-) -> Log {
+pub fn waiting_message(out: &mut [u8], log: Log, line: u64, notes: &Notes, stream: u64) -> Log {
     let at = first_of(stream);
-    told(out, log, line, notes, at, at + 1)
+    told(out, log, (line != 0).then_some(line), notes, at, at + 1)
 }
 
 // Those of a stream, told as ended at this line.
-pub fn waiting_stream(
-    out: &mut [u8],
-    log: Log,
-    line: u64,
-    notes: &[u64; NOTES],
-    stream: u64,
-) -> Log {
+pub fn waiting_stream(out: &mut [u8], log: Log, line: u64, notes: &Notes, stream: u64) -> Log {
     let at = first_of(stream);
-    told(out, log, line, notes, at, at + 2)
+    told(out, log, (line != 0).then_some(line), notes, at, at + 2)
 }

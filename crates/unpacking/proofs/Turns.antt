@@ -10,8 +10,9 @@ use lib.Seq.{take_at}
 use lib.Dec.{ltb, leb}
 use lib.Pow.{shr-shr, shr_lt, pow_pos, split as halves}
 use borrow.Author.Tests.{lt-ltb, leb-true}
+use Rattle.std.proofs.lemmas.List.{nil_from_length}
+use Rattle.std.proofs.lemmas.Bool.{agree_below, agree_below_at}
 use Rattle.memory.specs.Choice.{pick}
-use Rattle.memory.specs.Bytes.{part}
 use Rattle.memory.proofs.Order.{split, pick_true}
 use Rattle.huffman.specs.Codes.{codes, code_of}
 use Rattle.huffman.specs.Bits.{bits_of, bits, value_of}
@@ -22,16 +23,14 @@ use Rattle.huffman.proofs.Standings.{one_code}
 use Rattle.huffman.proofs.Unpacks.{unpack-mark, unpack-end}
 use Rattle.short_codes.specs.Short.{short_of}
 use Rattle.long_codes.specs.Fronts.{LongFront, LongCode}
-use Rattle.unpacking.specs.Waiting.{highest, waiting, Sound}
-use Rattle.short_codes.proofs.Fronts.{short_none, short-front, below, below_at}
+use Rattle.unpacking.specs.declared.bits.Bits.{Bits}
+use Rattle.unpacking.specs.Waiting.{highest, bits_then, Refilled}
+use Rattle.unpacking.specs.Turns.{Begun, Taken, NoneHeld, TakenOff, Took, Stopped}
+use Rattle.short_codes.proofs.Fronts.{short_none, short-front}
 use Rattle.unpacking.proofs.Highest.{length-highest, cut, highest-take, zeros-take, padded-long}
-use Rattle.unpacking.proofs.Refills.{held}
+use Rattle.unpacking.proofs.Refills.{Sound}
 
 -- ---- what begins the bits
-
--- entry i's code begins the 64 bits of w
-abbrev pub Begun : ℕ → ℕ → Type 0
-Begun w i = w / 2 ^ (64 - (code_of i).size) ≡ (code_of i).value
 
 -- c says a byte, times 256, and the size of its code, which begins them
 record Front (w c : ℕ) : Type 0 where
@@ -39,13 +38,6 @@ record Front (w c : ℕ) : Type 0 where
   within : byte < 256
   said : c ≡ byte * 256 + (code_of byte).size
   front : Begun w byte
-
--- a byte's code begins them, and the n bits which wait hold it
-pub record Taken (w n byte size : ℕ) : Type 0 where
-  pub within : byte < 256
-  pub sized : size ≡ (code_of byte).size
-  pub front : Begun w byte
-  pub fits : size ≤ n
 
 -- an entry whose code begins them, and that the n bits which wait do not hold, or the end mark
 record Stop (w n : ℕ) : Type 0 where
@@ -57,16 +49,12 @@ record Stop (w n : ℕ) : Type 0 where
 size_of : {w c : ℕ} (f : Front w c) → c % 256 ≡ (code_of f.byte).size
 size_of f = omega (arith, f.said, (code-fit f.byte (omega (arith, f.within))).high)
 
-byte_of : {w c : ℕ} (f : Front w c) → c / 256 % 256 ≡ f.byte
-byte_of f = omega (arith, f.said, f.within, (code-fit f.byte (omega (arith, f.within))).high)
-
--- as the program has it: the byte and the size by one number
-abbrev pub TakenBy : ℕ → ℕ → ℕ → Type 0
-TakenBy w n c = Taken w n (c / 256 % 256) (c % 256)
-
-taken-by : {w n c : ℕ} → Front w c → c % 256 ≤ n → TakenBy w n c
-taken-by {w} {n} {c} f l =
-    subst (λ (x : ℕ). Taken w n x (c % 256)) (sym (byte_of f)) (record { within = f.within; sized = size_of f; front = f.front; fits = l })
+-- as the program has it: the byte and the size
+taken-by : {w n byte size : ℕ} → Front w (256 * byte + size) → byte < 256 → size < 256 → size ≤ n → Taken w n byte size
+taken-by {w} {n} {byte} {size} f b h l =
+    let sized = size_of f in
+    let e : byte ≡ f.byte = omega (arith, f.said, f.within) in
+    subst (λ (x : ℕ). Taken w n x size) (sym e) (record { within = f.within; sized = omega arith; front = f.front; fits = l })
 
 module _ (w : ℕ) (wide : w < 2 ^ 64) where
   -- 8 or 32 bits of the 64
@@ -88,14 +76,17 @@ module _ (w : ℕ) (wide : w < 2 ^ 64) where
       let l = (code-fit f.byte (omega (arith, f.within))).high in
       record { byte = f.byte; within = f.within; said = f.said; front = sym (deeper 32 f.byte (omega arith) (omega arith)) ∙ f.front }
 
-  pub short-found : (n : ℕ) → n < 64 → short_of (w / 2 ^ 56) % 256 ≤ n → TakenBy w n (short_of (w / 2 ^ 56))
-  short-found n h l =
-      split (w / 2 ^ 56) 254 (λ b. taken-by (short-said b) l) (λ b. absurd (omega (arith, short_none (w / 2 ^ 56) b top_byte)))
+  pub short-found : (n byte size : ℕ) → n < 64 → byte ≡ short_of (w / 2 ^ 56) / 256 → size ≡ short_of (w / 2 ^ 56) % 256 → byte < 256 → size ≤ n
+      → Taken w n byte size
+  short-found n byte size h e d b l =
+      let f : short_of (w / 2 ^ 56) ≡ 256 * byte + size = omega arith in
+      split (w / 2 ^ 56) 254 (λ u. taken-by (subst (Front w) f (short-said u)) b (omega arith) l)
+      (λ u. absurd (omega (arith, short_none (w / 2 ^ 56) u top_byte)))
 
-  pub long-found : (n d : ℕ) → n < 64 → LongCode (w / 2 ^ 32) d → d % 256 ≤ n → TakenBy w n d
-  long-found n d h f l =
-      split (w / 2 ^ 32) 0xfe00_0000 (λ b. absurd (omega (arith, f.shorter b)))
-      (λ b. split (w / 2 ^ 32) 0xffff_fffc (λ u. taken-by (long-said d (f.longer b u)) l) (λ u. absurd (omega (arith, f.mark u))))
+  pub long-found : (n byte size : ℕ) → n < 64 → LongCode (w / 2 ^ 32) (256 * byte + size) → byte < 256 → size < 256 → size ≤ n → Taken w n byte size
+  long-found n byte size h f b m l =
+      split (w / 2 ^ 32) 0xfe00_0000 (λ u. absurd (omega (arith, f.shorter u)))
+      (λ u. split (w / 2 ^ 32) 0xffff_fffc (λ v. taken-by (long-said (256 * byte + size) (f.longer u v)) b m l) (λ v. absurd (omega (arith, f.mark v))))
 
   mark-front : 0xffff_fffc ≤ w / 2 ^ 32 → Begun w 256
   unfolding code_of codes
@@ -123,8 +114,8 @@ early i =
     pick (ltb (code_of i).size 10)
     (pick (leb (code_of i).size 8) (leb ((code_of i).value * 2 ^ (8 - (code_of i).size) + 2 ^ (8 - (code_of i).size)) 254) false) true
 
-all-early : below early 257 ≡ true
-unfolding below early code_of codes
+all-early : agree_below early (λ _. true) 257 ≡ true
+unfolding early code_of codes
 all-early = refl
 
 early-small : (i : ℕ) → i < 257 → (code_of i).size < 10
@@ -134,7 +125,7 @@ early-small i h l =
     let a = leb (code_of i).size 8 in
     let v : ℕ = (code_of i).value * 2 ^ (8 - (code_of i).size) + 2 ^ (8 - (code_of i).size) in
     let t : pick a (leb v 254) false ≡ true =
-    sym (pick_true (ltb (code_of i).size 10) (pick a (leb v 254) false) true (lt-ltb (code_of i).size 10 l)) ∙ below_at early 257 all-early i h in
+    sym (pick_true (ltb (code_of i).size 10) (pick a (leb v 254) false) true (lt-ltb (code_of i).size 10 l)) ∙ agree_below_at early (λ _. true) 257 i all-early h in
     (leb-true (code_of i).size 8 (pick_first a (leb v 254) t), leb-true v 254 (pick_second a (leb v 254) t))
 
 -- ---- a byte
@@ -147,39 +138,26 @@ begun-bits : (w i : ℕ) → Begun w i → highest (code_of i).size w ≡ code_b
 unfolding highest code_bits
 begun-bits w i e = ap (bits_of (code_of i).size) e
 
-module _ (s : List ℕ) (to : ℕ) {w n at : ℕ} (p : Sound to (held w n at)) where
+module _ {w n : ℕ} (bytes : List ℕ) (p : Sound w n) where
   module _ (byte size : ℕ) (q : Taken w n byte size) where
-    pub taken-sound : Sound to (held (w * 2 ^ size % 2 ^ 64) (n - size) at)
+    pub taken-sound : Sound (w * 2 ^ size % 2 ^ 64) (n - size)
     taken-sound =
         let few = p.few in
         record {
           few = omega arith;
           wide = mod-lt (w * 2 ^ size) (pow_pos 64);
           zeros = zeros-take n w size q.fits (omega arith) p.zeros;
-          within = p.within;
         }
 
-    pub taken-waiting : waiting s to (held w n at) ≡ code_bits byte ++ waiting s to (held (w * 2 ^ size % 2 ^ 64) (n - size) at)
-    unfolding waiting
+    pub taken-waiting : bits_then w n bytes ≡ code_bits byte ++ bits_then (w * 2 ^ size % 2 ^ 64) (n - size) bytes
+    unfolding bits_then
     taken-waiting =
         let few = p.few in
-        let rest = bits (part s at (to - at)) in
         let k = highest (n - size) (w * 2 ^ size % 2 ^ 64) in
-        ap (λ (r : List Bool). r ++ rest)
+        ap (λ (r : List Bool). r ++ bits bytes)
         (highest-take n w size q.fits (omega arith)
         ∙ ap (λ (r : List Bool). r ++ k) (ap (λ (j : ℕ). highest j w) q.sized ∙ begun-bits w byte q.front))
-        ∙ append_assoc (code_bits byte) k rest
-
-    -- five bits at least
-    pub taken-length : length (waiting s to (held (w * 2 ^ size % 2 ^ 64) (n - size) at)) + 5 ≤ length (waiting s to (held w n at))
-    taken-length =
-        omega (
-          arith,
-          ap length taken-waiting,
-          length-append (code_bits byte) (waiting s to (held (w * 2 ^ size % 2 ^ 64) (n - size) at)),
-          length-code_bits byte,
-          (code-fit byte (omega (arith, q.within))).low,
-        )
+        ∙ append_assoc (code_bits byte) k (bits bytes)
 
   -- ---- the end
 
@@ -210,14 +188,12 @@ module _ (s : List ℕ) (to : ℕ) {w n at : ℕ} (p : Sound to (held w n at)) w
             ∙ ap value_of same ∙ code-value j b,
       )
 
-  no_bytes : at ≡ to → waiting s to (held w n at) ≡ highest n w
-  unfolding waiting bits
-  no_bytes e =
-      let z : to - at ≡ 0 = omega arith in
-      ap (λ (k : ℕ). highest n w ++ bits (part s at k)) z ∙ append-nil (highest n w)
+  no_bytes : length bytes ≡ 0 → bits_then w n bytes ≡ highest n w
+  unfolding bits_then bits
+  no_bytes e = ap (λ (xs : List ℕ). highest n w ++ bits xs) (nil_from_length bytes e) ∙ append-nil (highest n w)
 
-  stop-short : (f i : ℕ) → (n < 32 → at ≡ to) → i < 257 → Begun w i → n < (code_of i).size
-      → unpack_bits (suc f) (waiting s to (held w n at)) ≡ ended (padding (highest n w))
+  stop-short : (f i : ℕ) → (n < 32 → length bytes ≡ 0) → i < 257 → Begun w i → n < (code_of i).size
+      → unpack_bits (suc f) (bits_then w n bytes) ≡ ended (padding (highest n w))
   stop-short f i full h e l =
       let high = (code-fit i h).high in
       ap (unpack_bits (suc f)) (no_bytes (full (omega arith))) ∙ unpack-end f (highest n w) (none-begins i h e l)
@@ -226,18 +202,17 @@ module _ (s : List ℕ) (to : ℕ) {w n at : ℕ} (p : Sound to (held w n at)) w
   unfolding code_of codes
   mark-size = refl
 
-  stop-mark : (f : ℕ) → Begun w 256 → 30 ≤ n → unpack_bits (suc f) (waiting s to (held w n at)) ≡ ended (padding (highest n w))
-  unfolding waiting
+  stop-mark : (f : ℕ) → Begun w 256 → 30 ≤ n → unpack_bits (suc f) (bits_then w n bytes) ≡ ended (padding (highest n w))
+  unfolding bits_then
   stop-mark f e l =
       let few = p.few in
-      let rest = bits (part s at (to - at)) in
       let k = highest (n - 30) (w * 2 ^ 30 % 2 ^ 64) in
       let m : highest 30 w ≡ code_bits 256 = ap (λ (j : ℕ). highest j w) (sym mark-size) ∙ begun-bits w 256 e in
-      ap (λ (r : List Bool). unpack_bits (suc f) (r ++ rest)) (highest-take n w 30 l (omega arith) ∙ ap (λ (r : List Bool). r ++ k) m)
-      ∙ ap (unpack_bits (suc f)) (append_assoc (code_bits 256) k rest) ∙ unpack-mark f (k ++ rest)
+      ap (λ (r : List Bool). unpack_bits (suc f) (r ++ bits bytes)) (highest-take n w 30 l (omega arith) ∙ ap (λ (r : List Bool). r ++ k) m)
+      ∙ ap (unpack_bits (suc f)) (append_assoc (code_bits 256) k (bits bytes)) ∙ unpack-mark f (k ++ bits bytes)
       ∙ ap ended (sym (padded-long n w (omega arith)))
 
-  stopped : (f : ℕ) → (n < 32 → at ≡ to) → Stop w n → unpack_bits (suc f) (waiting s to (held w n at)) ≡ ended (padding (highest n w))
+  stopped : (f : ℕ) → (n < 32 → length bytes ≡ 0) → Stop w n → unpack_bits (suc f) (bits_then w n bytes) ≡ ended (padding (highest n w))
   stopped f full q =
       let i = q.entry in
       split n (code_of i).size (λ l. stop-short f i full q.within q.front l) (λ l. split i 256
@@ -246,8 +221,8 @@ module _ (s : List ℕ) (to : ℕ) {w n at : ℕ} (p : Sound to (held w n at)) w
       stop-mark f (subst (Begun w) e q.front) (omega (arith, ap (λ (j : ℕ). (code_of j).size) e, mark-size))))
 
   -- more bits than padding has, and no code that they hold
-  pub stopped-many : (f d : ℕ) → (n < 32 → at ≡ to) → 10 ≤ n → n < short_of (w / 2 ^ 56) % 256 → LongCode (w / 2 ^ 32) d → n < d % 256
-      → unpack_bits (suc f) (waiting s to (held w n at)) ≡ ended false
+  pub stopped-many : (f d : ℕ) → (n < 32 → length bytes ≡ 0) → 10 ≤ n → n < short_of (w / 2 ^ 56) % 256 → LongCode (w / 2 ^ 32) d → n < d % 256
+      → unpack_bits (suc f) (bits_then w n bytes) ≡ ended false
   stopped-many f d full many l q k =
       stopped f full (none_found w p.wide n d q l k) ∙ ap ended (padded-long n w (omega arith))
 
@@ -261,9 +236,32 @@ module _ (s : List ℕ) (to : ℕ) {w n at : ℕ} (p : Sound to (held w n at)) w
       let v : y / 2 ^ k ≡ (code_of j).value = deeper w p.wide 8 j small.0 (omega arith) ∙ e.1 in
       omega (arith, small.1, halves y k, ap (λ (x : ℕ). x * 2 ^ k) v, mod-lt y (pow_pos k))
 
-  pub stopped-few : (f : ℕ) → (n < 32 → at ≡ to) → n < 10 → n < short_of (w / 2 ^ 56) % 256
-      → unpack_bits (suc f) (waiting s to (held w n at)) ≡ ended (padding (highest n w))
+  pub stopped-few : (f : ℕ) → (n < 32 → length bytes ≡ 0) → n < 10 → n < short_of (w / 2 ^ 56) % 256
+      → unpack_bits (suc f) (bits_then w n bytes) ≡ ended (padding (highest n w))
   stopped-few f full few l =
       split (w / 2 ^ 56) 254
       (λ b. stopped f full (stop-at w p.wide n (short_of (w / 2 ^ 56)) (short-said w p.wide b) l))
       (λ b. ap (unpack_bits (suc f)) (no_bytes (full (omega arith))) ∙ unpack-end f (highest n w) (none-early few b))
+
+  -- no code that the bits hold
+  pub stopped-turn : (f : ℕ) → (n < 32 → length bytes ≡ 0) → NoneHeld w n → unpack_bits (suc f) (bits_then w n bytes) ≡ ended (padding (highest n w))
+  stopped-turn f full q =
+      split n 10 (λ few. stopped-few f full few q.short)
+      (λ many. let l = q.long many in
+      stopped-many f l.0 full many q.short l.1 l.2 ∙ ap ended (sym (padded-long n w (omega arith))))
+
+-- the code of a byte, taken off the bits
+pub took : {b r : Bits} {byte size : ℕ} → Sound b.w b.n → Taken b.w b.n byte size → TakenOff b size r → Took b r byte
+took {b} {r} {byte} {size} p q t = record {
+  within = q.within;
+  code = rw (t.w_is, t.n_is, t.bytes_are) (taken-waiting b.bytes.now p byte size q);
+}
+
+pub refilled-took : {b r t : Bits} {byte : ℕ} → Refilled b r → Took r t byte → Took b t byte
+refilled-took p q = record { within = q.within; code = sym p.same ∙ q.code }
+
+pub no-more : {b r : Bits} → Sound r.w r.n → Refilled b r → NoneHeld r.w r.n → Stopped b r
+no-more {b} {r} s p q = record { ends = λ f. ap (unpack_bits (suc f)) (sym p.same) ∙ stopped-turn r.bytes.now s f p.full q }
+
+pub sound : (b : Bits) → b.w < 2 ^ 64 → Sound b.w b.n
+sound b h = record { few = b.few; wide = h; zeros = b.zeros }

@@ -2,4 +2,5 @@
 #![tactic(auto)]
 
 pub mod bits;
+mod padding;
 pub mod unpack;

@@ -1,15 +1,15 @@
 // The answer to one vector.
 ghost use Rattle.std.specs.Prelude.{ℕ, ◌≤◌};
 
-use blocks::read::{RepresentationPlace, RepresentationRead, check_block, read_representation};
+use blocks::read::{RepresentationPlace, check_block, read_representation};
 use fields::read::check_list;
-use instructions::read::{InstructionPlace, InstructionRead, read_for_decoder, read_for_encoder};
-use integers::answer::DONE;
+use instructions::read::{InstructionPlace, read_for_decoder, read_for_encoder};
+use integers::answer::Read;
 use integers::byte::wide;
-use integers::integer::{IntRead, WireInt};
-use show::{bytes, list, name, next, number, refusal, string, words};
-use stream_lists::stream_list::{ListRead, read_list};
-use wire::text::{NAME_LIMIT, StringRead, VALUE_LIMIT, read_string};
+use integers::integer::WireInt;
+use show::{because, bytes, judged, list, name, next, number, string, words};
+use stream_lists::stream_list::read_list;
+use wire::text::{NAME_LIMIT, VALUE_LIMIT, read_string};
 
 // The values of a byte.
 const BYTE: u32 = 256;
@@ -24,7 +24,7 @@ pub fn answer(kind: u8, width: u8, s: &[u8]) {
         b'd' => instruction(s, read_for_decoder(s)),
         b'e' => instruction(s, read_for_encoder(s)),
         b'b' => block(s),
-        b'f' => refusal(check_list(s)),
+        b'f' => judged(check_list(s)),
         _ => words(b"?"),
     }
 }
@@ -34,13 +34,7 @@ fn width_of(digit: u8) -> u32
     ensures { (1 ≤ result) × (result ≤ 8) }
 {
     match digit {
-        b'1' => 1,
-        b'2' => 2,
-        b'3' => 3,
-        b'4' => 4,
-        b'5' => 5,
-        b'6' => 6,
-        b'7' => 7,
+        b'1'..=b'7' => u32::from(digit - b'0'),
         _ => 8,
     }
 }
@@ -48,8 +42,8 @@ fn width_of(digit: u8) -> u32
 // An integer read.
 fn integer(width: u8, s: &[u8]) {
     let r = WireInt::read(s, 0, width_of(width));
-    let IntRead::Value(n, after) = r else {
-        refusal(r.number());
+    let Ok((n, after)) = r else {
+        because(r.unwrap_err());
         return;
     };
     number(b"value ", n.value as u64);
@@ -58,12 +52,10 @@ fn integer(width: u8, s: &[u8]) {
 
 // An integer written: a byte with the bits above the prefix, then the value in four bytes, the highest first.
 fn written(width: u8, s: &[u8]) {
-    if s.len() != 5 {
+    let &[top, a, b, c, d] = s else {
         return;
-    }
-    let high = wide(s[1]) * BYTE + wide(s[2]);
-    let low = wide(s[3]) * BYTE + wide(s[4]);
-    write(width_of(width), wide(s[0]), high * (BYTE * BYTE) + low);
+    };
+    write(width_of(width), wide(top), u32::from_be_bytes([a, b, c, d]));
 }
 
 // Nothing for a value that is too large, or where the bits `top` are not above the prefix.
@@ -87,8 +79,8 @@ fn string_read(s: &[u8], limit: usize)
     requires { limit ≤ 2047 }
 {
     let r = read_string(s, 0, limit);
-    let StringRead::Found(place, after) = r else {
-        refusal(r.number());
+    let Ok((place, after)) = r else {
+        because(r.unwrap_err());
         return;
     };
     string(b"string ", s, place);
@@ -96,20 +88,26 @@ fn string_read(s: &[u8], limit: usize)
 }
 
 fn list_read(s: &[u8]) {
-    let r = read_list(s, 0);
-    let ListRead::Found(place, after) = r else {
-        refusal(r.number());
-        return;
-    };
-    list(b"horizon ", s, place);
-    next(after);
+    match read_list(s, 0) {
+        Ok((place, after)) => {
+            list(b"horizon ", s, place);
+            next(after);
+        }
+        Err(why) => because(why),
+    }
 }
 
-fn instruction(s: &[u8], r: InstructionRead) {
-    let InstructionRead::Found(place, taken) = r else {
-        refusal(r.number());
-        return;
-    };
+fn instruction(s: &[u8], r: Read<InstructionPlace>) {
+    match r {
+        Ok((place, taken)) => {
+            instruction_found(s, place);
+            next(taken);
+        }
+        Err(why) => because(why),
+    }
+}
+
+fn instruction_found(s: &[u8], place: InstructionPlace) {
     match place {
         InstructionPlace::Insert(index, n, value) => {
             number(b"insert ", index.value as u64);
@@ -123,25 +121,22 @@ fn instruction(s: &[u8], r: InstructionRead) {
         }
         InstructionPlace::Acknowledge(index) => number(b"acknowledge ", index.value as u64),
     }
-    next(taken);
 }
 
 // A whole block: its representations, if it has no refusal, and the answer.
 fn block(s: &[u8]) {
-    let code = check_block(s);
-    if code == DONE {
+    let r = check_block(s);
+    if r.is_ok() {
         representations(s);
     }
-    refusal(code);
+    judged(r);
 }
 
+// The reading ends at the end of the bytes.
 fn representations(s: &[u8]) {
+    // No step is counted, so `for` has none to take: where a representation ends says its reader.
     let mut at: usize = 0;
-    while at < s.len() {
-        let r = read_representation(s, at);
-        let RepresentationRead::Found(place, after) = r else {
-            return;
-        };
+    while let Ok((place, after)) = read_representation(s, at) {
         representation(s, place);
         at = after;
     }

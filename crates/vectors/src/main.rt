@@ -7,7 +7,7 @@ mod answers;
 
 use answers::answer;
 use show::words;
-use tokens::hex::{line_end, unhex};
+use tokens::hex::unhex;
 
 fn main() {
     let mut input = io::large_buffer();
@@ -16,11 +16,8 @@ fn main() {
 }
 
 fn lines(input: &[u8]) {
-    let mut at: usize = 0;
-    while at < input.len() {
-        let end = line_end(input, at);
-        line(&input[at..end]);
-        at = end + 1;
+    for text in input.split_inclusive(|c| *c == b'\n') {
+        line(text.strip_suffix(b"\n").unwrap_or(text));
     }
 }
 

@@ -16,19 +16,18 @@ use Rattle.huffman.proofs.RoundTrip.{pack-unpack}
 use Rattle.wire.specs.Text.{plain_place, text_at, string_end, packs, read_string, string_wire, string_length, string_bytes}
 use Rattle.wire.specs.Name.{Name, FineName, name_of, read_name, name_wire}
 use Rattle.wire.specs.declared.text.StringPlace.{StringPlace}
-use Rattle.wire.specs.declared.text.StringRead.TheVariants.{Found}
 use Rattle.wire.specs.declared.name.NamePlace.{NamePlace}
 use Rattle.wire.specs.declared.name.NamePlace.TheVariants.{Index, Text}
-use Rattle.wire.specs.declared.name.NameRead.TheVariants.{Found as NameFound}
 use Rattle.integers.proofs.Back.{int-back}
 use Rattle.integers.proofs.Lengths.{first_byte}
 use Rattle.wire.proofs.Strings.{string-plain, string-packed, after-end, end-found, plain-found, name_index, name-text}
 use Rattle.wire.proofs.TextWriting.{plain-wire, packed-wire, packs_bytes, literal-length-wire}
+use Rattle.std.specs.Prelude.{Ok}
 
 -- where the bytes of a string stand, a place with that string is read
 module _ (s : List ℕ) (at limit : ℕ) (xs : List ℕ) (h : length xs ≤ limit) (k : length xs ≤ 2047) where
   abbrev Back : Bool → List ℕ → Type 0
-  Back packed bytes = (p : StringPlace) × (read_string s at limit ≡ Found p (at + length bytes)) × (string_bytes s p ≡ xs) × (string_length s p ≡ length xs) × (p.packed ≡ packed)
+  Back packed bytes = (p : StringPlace) × (read_string s at limit ≡ Ok (p, at + length bytes)) × (string_bytes s p ≡ xs) × (string_length s p ≡ length xs) × (p.packed ≡ packed)
 
   pub plain_back : Has s at (int_wire 7 0 (length xs) ++ xs) → Back false (int_wire 7 0 (length xs) ++ xs)
   unfolding string_bytes string_length text_at
@@ -44,7 +43,7 @@ module _ (s : List ℕ) (at limit : ℕ) (xs : List ℕ) (h : length xs ≤ limi
         plain_place start n,
         string-plain s at limit low.0 _ refl (record { value = n }) start (int-back s 7 at 0 n (omega arith) q) (omega (arith, low.2))
             ∙ plain-found s limit n start h (omega arith)
-            ∙ ap (Found (plain_place start n)) (omega (arith, length-append bytes xs)),
+            ∙ ap (λ (next : ℕ). Ok (plain_place start n, next)) (omega (arith, length-append bytes xs)),
         has_part s start xs rest,
         refl,
         refl,
@@ -71,14 +70,14 @@ module _ (s : List ℕ) (at limit : ℕ) (xs : List ℕ) (h : length xs ≤ limi
             ∙ after-end true s limit n start (omega (arith, few)) (omega (arith, fits))
             ∙ ap (string_end true limit n start) text
             ∙ end-found true limit n start (whole xs) h refl
-            ∙ ap (Found (record { start = start; size = n; packed = true; length = length xs })) (omega (arith, length-append bytes (pack xs), l)),
+            ∙ ap (λ (next : ℕ). Ok (record { start = start; size = n; packed = true; length = length xs }, next)) (omega (arith, length-append bytes (pack xs), l)),
         ap (λ (u : Unpacked). u.bytes) text,
         refl,
         refl,
       )
 
   pub string-back : Has s at (string_wire xs)
-      → (p : StringPlace) × (read_string s at limit ≡ Found p (at + length (string_wire xs))) × (string_bytes s p ≡ xs) × (string_length s p ≡ length xs)
+      → (p : StringPlace) × (read_string s at limit ≡ Ok (p, at + length (string_wire xs))) × (string_bytes s p ≡ xs) × (string_length s p ≡ length xs)
   string-back p =
       let r =
       either (packs xs)
@@ -88,7 +87,7 @@ module _ (s : List ℕ) (at limit : ℕ) (xs : List ℕ) (h : length xs ≤ limi
 
 -- where the bytes of a name stand, a place with that name is read
 pub name_back : (s : List ℕ) (k at t : ℕ) (n : Name) → FineName n → Has s at (name_wire k (t * 2 ^ k) n)
-    → (p : NamePlace) × (read_name k s at ≡ NameFound p (at + length (name_wire k (t * 2 ^ k) n))) × (name_of s p ≡ n)
+    → (p : NamePlace) × (read_name k s at ≡ Ok (p, at + length (name_wire k (t * 2 ^ k) n))) × (name_of s p ≡ n)
 unfolding name_wire
 name_back s k at t (Name.indexed i) h p = (
   Index (record { value = i }),
@@ -101,7 +100,7 @@ name_back s k at t (Name.literal xs) h p =
     let b = string-back s (at + length head) 255 xs h (omega arith) (has_right s at head (string_wire xs) p) in (
       Text b.0,
       name-text k s at _ refl (record { value = 0 }) _ e refl _ refl b.0 _ b.1
-          ∙ ap (NameFound (Text b.0)) (omega (arith, literal-length-wire k (t * 2 ^ k) xs)),
+          ∙ ap (λ (next : ℕ). Ok (Text b.0, next)) (omega (arith, literal-length-wire k (t * 2 ^ k) xs)),
       ap Name.literal b.2,
     )
 

@@ -16,17 +16,13 @@ use Rattle.huffman.proofs.Unpacks.{small-unpack}
 use Rattle.wire.specs.Text.{InString, text_at, size_limit, is_packed, read_string, string_after, string_end, string_length, string_bytes}
 use Rattle.wire.specs.Name.{GoodName, Name, name_of, read_name}
 use Rattle.integers.specs.declared.integer.WireInt.{WireInt}
-use Rattle.integers.specs.declared.integer.IntRead.{IntRead}
-use Rattle.integers.specs.declared.integer.IntRead.TheVariants.{Value, Refused as IntRefused}
 use Rattle.wire.specs.declared.text.StringPlace.{StringPlace}
-use Rattle.wire.specs.declared.text.StringRead.{StringRead}
-use Rattle.wire.specs.declared.text.StringRead.TheVariants.{Found, Refused}
 use Rattle.wire.specs.declared.name.NamePlace.{NamePlace}
 use Rattle.wire.specs.declared.name.NamePlace.TheVariants.{Index, Text}
-use Rattle.wire.specs.declared.name.NameRead.{NameRead}
-use Rattle.wire.specs.declared.name.NameRead.TheVariants.{Found as NameFound, Refused as NameRefused}
 use Rattle.integers.proofs.Bounds.{int-good}
 use Rattle.wire.proofs.Strings.{slice-part, slice-unpacked, string-short, string-refused, string-value, after-long, after-cut, after-end, end-long, end-bad, end-found, name-refused, name_index, name-text-refused, name-text}
+use Rattle.std.specs.Prelude.{Ok, Err}
+use Rattle.integers.specs.Answers.{Read}
 
 pub record GoodString (s : List ℕ) (at limit : ℕ) (p : StringPlace) (next : ℕ) : Type 0 where
   pub after : at < p.start
@@ -36,9 +32,9 @@ pub record GoodString (s : List ℕ) (at limit : ℕ) (p : StringPlace) (next : 
   pub text : InString s p
   pub short : string_length s p ≤ limit
 
-abbrev pub GoodStringRead : List ℕ → ℕ → ℕ → StringRead → Type 0
-GoodStringRead s at limit (Found p next) = GoodString s at limit p next
-GoodStringRead s at limit (Refused number) = Unit {0}
+abbrev pub GoodStringRead : List ℕ → ℕ → ℕ → Read StringPlace → Type 0
+GoodStringRead s at limit (Ok (p, next)) = GoodString s at limit p next
+GoodStringRead s at limit (Err why) = Unit {0}
 
 -- neither kind of string takes more than four times the limit
 size-most : (packed : Bool) (limit : ℕ) → size_limit packed limit ≤ 4 * limit
@@ -78,9 +74,9 @@ module _ (s : List ℕ) (at limit : ℕ) where
       (λ m. rw (after-cut packed s limit size start l m) tt)
       (λ m. rw (after-end packed s limit size start l m) (good-end packed size start h near k l m)))
 
-  good-value : at < length s → (r : IntRead) → r ≡ read_int 7 s at → GoodStringRead s at limit (read_string s at limit)
-  good-value h (IntRefused number) e = rw (string-refused s at limit h _ e number refl) tt
-  good-value h (Value n start) e =
+  good-value : at < length s → (r : Read WireInt) → r ≡ read_int 7 s at → GoodStringRead s at limit (read_string s at limit)
+  good-value h (Err why) e = rw (string-refused s at limit h _ e why refl) tt
+  good-value h (Ok (n, start)) e =
       let g = int-good 7 s at (omega arith) _ e n start refl in
       rw (string-value s at limit h _ e n start refl) (good-after (is_packed s at) n.value start g.0 g.3 g.1)
 
@@ -90,7 +86,7 @@ module _ (s : List ℕ) (at limit : ℕ) where
       (λ l. good-value l (read_int 7 s at) refl)
       (λ l. rw (string-short s at limit l) tt)
 
-  pub string-good : (p : StringPlace) (next : ℕ) → read_string s at limit ≡ Found p next → GoodString s at limit p next
+  pub string-good : (p : StringPlace) (next : ℕ) → read_string s at limit ≡ Ok (p, next) → GoodString s at limit p next
   string-good p next e = subst (GoodStringRead s at limit) e good-string
 
 -- the bytes of a string do not change when bytes are added behind
@@ -153,29 +149,29 @@ module _ (s : List ℕ) (p : StringPlace) where
         told = ap (λ (u : Unpacked). length u.bytes) e ∙ h.told;
       }
 
-abbrev pub GoodNameRead : List ℕ → ℕ → NameRead → Type 0
-GoodNameRead s at (NameFound p next) = (at < next) × (next ≤ length s) × (next ≤ at + 1030) × GoodName s p
-GoodNameRead s at (NameRefused number) = Unit {0}
+abbrev pub GoodNameRead : List ℕ → ℕ → Read NamePlace → Type 0
+GoodNameRead s at (Ok (p, next)) = (at < next) × (next ≤ length s) × (next ≤ at + 1030) × GoodName s p
+GoodNameRead s at (Err why) = Unit {0}
 
 module _ (k : ℕ) (s : List ℕ) (at : ℕ) (h : k ≤ 8) where
-  good-text : (n : WireInt) (next : ℕ) → Value n next ≡ read_int k s at → n.value ≡ 0 → (t : StringRead) → t ≡ read_string s next 255
+  good-text : (n : WireInt) (next : ℕ) → Ok (n, next) ≡ read_int k s at → n.value ≡ 0 → (t : Read StringPlace) → t ≡ read_string s next 255
       → GoodNameRead s at (read_name k s at)
-  good-text n next e z (Refused number) f = rw (name-text-refused k s at _ e n next refl z _ f number refl) tt
-  good-text n next e z (Found p after) f =
+  good-text n next e z (Err why) f = rw (name-text-refused k s at _ e n next refl z _ f why refl) tt
+  good-text n next e z (Ok (p, after)) f =
       let g = int-good k s at h _ e n next refl in
       let t = string-good s next 255 p after (sym f) in
       rw (name-text k s at _ e n next refl z _ f p after refl)
       (omega (arith, g.0, t.after, t.ends), t.inside, omega (arith, g.3, t.near), (t.text, t.short))
 
-  good-head : (r : IntRead) → r ≡ read_int k s at → GoodNameRead s at (read_name k s at)
-  good-head (IntRefused number) e = rw (name-refused k s at _ e number refl) tt
-  good-head (Value n next) e =
+  good-head : (r : Read WireInt) → r ≡ read_int k s at → GoodNameRead s at (read_name k s at)
+  good-head (Err why) e = rw (name-refused k s at _ e why refl) tt
+  good-head (Ok (n, next)) e =
       let g = int-good k s at h _ e n next refl in
       split 0 n.value
       (λ l. rw (name_index k s at _ e n next refl (λ z. omega arith)) (g.0, g.1, omega (arith, g.3), (l, g.2)))
       (λ l. good-text n next e (omega arith) (read_string s next 255) refl)
 
-  pub name-good : (p : NamePlace) (next : ℕ) → read_name k s at ≡ NameFound p next
+  pub name-good : (p : NamePlace) (next : ℕ) → read_name k s at ≡ Ok (p, next)
       → (at < next) × (next ≤ length s) × (next ≤ at + 1030) × GoodName s p
   name-good p next e = subst (GoodNameRead s at) e (good-head (read_int k s at) refl)
 

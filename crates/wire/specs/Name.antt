@@ -1,13 +1,12 @@
 -- Names in inserts and literals: "name index (k-bit prefix; 0 means a name string follows)".
 use Rattle.std.specs.Prelude.{ℕ, ◌<◌, ◌≤◌, List, ◌++◌, length, eqb}
 use Rattle.memory.specs.Choice.{pick}
-use Rattle.integers.specs.Answers.{Answer, done, refusal}
+use Rattle.integers.specs.Answers.{Answer, done, Read, read_answer, on_read}
 use Rattle.integers.specs.Integer.{largest, read_int, on_int, int_wire}
-use Rattle.wire.specs.Text.{InString, string_length, string_bytes, read_string, on_string, string_wire, name_limit}
+use Rattle.wire.specs.Text.{InString, string_length, string_bytes, read_string, string_wire, name_limit}
 use Rattle.wire.specs.declared.name.NamePlace.{NamePlace}
 use Rattle.wire.specs.declared.name.NamePlace.TheVariants.{Index, Text}
-use Rattle.wire.specs.declared.name.NameRead.{NameRead}
-use Rattle.wire.specs.declared.name.NameRead.TheVariants.{Found, Refused}
+use Rattle.std.specs.Prelude.{Ok, Err}
 
 -- a name: by an index of the tables, or by its bytes
 pub data Name : Type 0 where
@@ -30,22 +29,16 @@ GoodName s (Index i) = (0 < i.value) × (i.value ≤ largest)
 GoodName s (Text p) = InString s p × (string_length s p ≤ name_limit)
 
 -- what is answered: the place after the name is told
-abbrev pub name_answer : NameRead → Answer
-name_answer (Found p next) = done next 0
-name_answer (Refused number) = refusal number
-
--- what follows a name and the place after it, or the refusal passed on at once
-abbrev pub on_name {ℓ} : {X : Type ℓ} → (ℕ → X) → NameRead → (NamePlace → ℕ → X) → X
-on_name refused (Found p next) f = f p next
-on_name refused (Refused number) f = refused number
+abbrev pub name_answer : Read NamePlace → Answer
+name_answer r = read_answer (λ p next. done next 0) r
 
 -- the name at the place at, whose index has a prefix of k bits
-unfoldable pub read_name : ℕ → List ℕ → ℕ → NameRead
+unfoldable pub read_name : ℕ → List ℕ → ℕ → Read NamePlace
 read_name k s at =
-    on_int Refused (read_int k s at) (λ index next.
+    on_int Err (read_int k s at) (λ index next.
     pick (eqb index 0)
-    (on_string Refused (read_string s next name_limit) (λ p after. Found (Text p) after))
-    (Found (Index (record { value = index })) next))
+    (on_read Err (read_string s next name_limit) (λ p after. Ok (Text p, after)))
+    (Ok (Index (record { value = index }), next)))
 
 -- the bytes that say a name, below the bits top of the first byte
 unfoldable pub name_wire : ℕ → ℕ → Name → List ℕ

@@ -2,12 +2,12 @@
 use Rattle.std.specs.Prelude.{ℕ, ◌+◌, ◌*◌, ◌-◌, ◌≤◌, ◌≡◌, Bool, true, false, List, [], ◌∷◌, ◌++◌, length, get_or, ltb, leb}
 use Rattle.memory.specs.Choice.{pick, need}
 use Rattle.memory.specs.Bytes.{part}
-use Rattle.integers.specs.Answers.{Answer, done, refusal, truncated, too_long, bad_packing}
+use Rattle.integers.specs.Answers.{Answer, done, Read, read_answer}
 use Rattle.integers.specs.Integer.{read_int, on_int, int_wire}
 use Rattle.huffman.specs.Packing.{Unpacked, whole, unpack, pack, packed_size}
 use Rattle.wire.specs.declared.text.StringPlace.{StringPlace}
-use Rattle.wire.specs.declared.text.StringRead.{StringRead}
-use Rattle.wire.specs.declared.text.StringRead.TheVariants.{Found, Refused}
+use Rattle.std.specs.Prelude.{Ok, Err}
+use Rattle.integers.specs.declared.answer.Refusal.TheVariants.{BadPacking, TooLong, Truncated}
 
 -- "A name has 0 to 255 bytes, a value 0 to 2,047"
 abbrev pub name_limit : ℕ
@@ -39,31 +39,25 @@ pub record InString (s : List ℕ) (p : StringPlace) : Type 0 where
   pub told : length (text_at p.packed s p.start p.size).bytes ≡ p.length
 
 -- what is answered: where the string stands and the place after it are told
-abbrev pub string_answer : StringRead → Answer
-string_answer (Found p next) = done p.start next
-string_answer (Refused number) = refusal number
-
--- what follows a string and the place after it, or the refusal passed on at once
-abbrev pub on_string {ℓ} : {X : Type ℓ} → (ℕ → X) → StringRead → (StringPlace → ℕ → X) → X
-on_string refused (Found p next) f = f p next
-on_string refused (Refused number) f = refused number
+abbrev pub string_answer : Read StringPlace → Answer
+string_answer r = read_answer (λ p next. done p.start next) r
 
 -- "The limits of 13 hold for the unpacked length, judged .. at once where a plain length passes the limit, or a packed one four times it."
 abbrev pub size_limit : Bool → ℕ → ℕ
 size_limit packed limit = pick packed (4 * limit) limit
 
 -- at the string's end: "before 18 (over the bytes unpacked before any fault)"
-unfoldable pub string_end : Bool → ℕ → ℕ → ℕ → Unpacked → StringRead
+unfoldable pub string_end : Bool → ℕ → ℕ → ℕ → Unpacked → Read StringPlace
 string_end packed limit size start u =
-    need (leb (length u.bytes) limit) (Refused too_long)
-    (need u.whole (Refused bad_packing)
-    (Found (record { start = start; size = size; packed = packed; length = length u.bytes }) (start + size)))
+    need (leb (length u.bytes) limit) (Err TooLong)
+    (need u.whole (Err BadPacking)
+    (Ok (record { start = start; size = size; packed = packed; length = length u.bytes }, start + size)))
 
 -- after the length and the place after it: "a longer length is answered 13 before the bytes are looked for"
-unfoldable pub string_after : Bool → List ℕ → ℕ → ℕ → ℕ → StringRead
+unfoldable pub string_after : Bool → List ℕ → ℕ → ℕ → ℕ → Read StringPlace
 string_after packed s limit size start =
-    need (leb size (size_limit packed limit)) (Refused too_long)
-    (need (leb size (length s - start)) (Refused truncated)
+    need (leb size (size_limit packed limit)) (Err TooLong)
+    (need (leb size (length s - start)) (Err Truncated)
     (string_end packed limit size start (text_at packed s start size)))
 
 -- is the H bit of the string at the place at set?
@@ -71,10 +65,10 @@ abbrev pub is_packed : List ℕ → ℕ → Bool
 is_packed s at = leb 128 (get_or s at 0)
 
 -- the string of at most `limit` bytes at the place at
-unfoldable pub read_string : List ℕ → ℕ → ℕ → StringRead
+unfoldable pub read_string : List ℕ → ℕ → ℕ → Read StringPlace
 read_string s at limit =
-    need (ltb at (length s)) (Refused truncated)
-    (on_int Refused (read_int 7 s at) (string_after (is_packed s at) s limit))
+    need (ltb at (length s)) (Err Truncated)
+    (on_int Err (read_int 7 s at) (string_after (is_packed s at) s limit))
 
 -- is each number of the list a byte? Only bytes have codes.
 unfoldable pub all_bytes : List ℕ → Bool

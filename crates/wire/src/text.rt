@@ -1,11 +1,11 @@
 // Strings on the wire: an H bit, a length with a prefix of seven bits, then that many bytes, which are packed where H is set.
 ghost use Rattle.std.specs.Prelude.{◌≡◌, true, false, ℕ, ◌+◌, ◌≤◌, length};
 ghost use Rattle.memory.specs.Bytes.{overlay};
-ghost use Rattle.wire.specs.Text.{InString, string_answer, string_length, string_bytes, plain_place, read_string, string_after, wire_size, value_limit};
+ghost use Rattle.wire.specs.Text.{InString, string_length, string_bytes, plain_place, read_string, string_after, wire_size, value_limit};
 
 use copying::copy::copy;
-use integers::answer::{BAD_PACKING, DONE, TOO_LONG, TRUNCATED};
-use integers::integer::{IntRead, WireInt};
+use integers::answer::{Read, Refusal};
+use integers::integer::WireInt;
 use packing::pack::packed_size;
 use unpacking::unpack::{unpack, unpacked_size};
 
@@ -28,24 +28,6 @@ pub struct StringPlace {
     pub size: usize,
     pub packed: bool,
     pub length: usize,
-}
-
-// What reading a string finds: its place and the place after it, or the answer's number.
-#[derive(Drop)]
-pub enum StringRead {
-    Found(StringPlace, usize),
-    Refused(u8),
-}
-
-impl StringRead {
-    pub fn number(self) -> u8
-        ensures { result ≡ (string_answer self).number }
-    {
-        match self {
-            StringRead::Found(_, _) => DONE,
-            StringRead::Refused(number) => number,
-        }
-    }
 }
 
 impl StringPlace {
@@ -85,26 +67,26 @@ impl StringPlace {
 }
 
 // A packed string, after its length and the place after it.
-fn read_packed(s: &[u8], limit: usize, size: usize, start: usize) -> StringRead
+fn read_packed(s: &[u8], limit: usize, size: usize, start: usize) -> Read<StringPlace>
     requires { (limit ≤ value_limit) × (start ≤ length s.now) }
     ensures { result ≡ string_after true s.now limit size start }
 {
     if PACKED_MOST * limit < size {
-        return StringRead::Refused(TOO_LONG);
+        return Err(Refusal::TooLong);
     }
     if s.len() - start < size {
-        return StringRead::Refused(TRUNCATED);
+        return Err(Refusal::Truncated);
     }
     let next = start + size;
     let found = unpacked_size(s, start, next);
     let length = found.count;
     if limit < length {
-        return StringRead::Refused(TOO_LONG);
+        return Err(Refusal::TooLong);
     }
     if !found.whole {
-        return StringRead::Refused(BAD_PACKING);
+        return Err(Refusal::BadPacking);
     }
-    StringRead::Found(
+    Ok((
         StringPlace {
             start,
             size,
@@ -112,35 +94,35 @@ fn read_packed(s: &[u8], limit: usize, size: usize, start: usize) -> StringRead
             length,
         },
         next,
-    )
+    ))
 }
 
 // A plain string, likewise.
-fn read_plain(s: &[u8], limit: usize, size: usize, start: usize) -> StringRead
+fn read_plain(s: &[u8], limit: usize, size: usize, start: usize) -> Read<StringPlace>
     requires { start ≤ length s.now }
     ensures { result ≡ string_after false s.now limit size start }
 {
     if limit < size {
-        return StringRead::Refused(TOO_LONG);
+        return Err(Refusal::TooLong);
     }
     if s.len() - start < size {
-        return StringRead::Refused(TRUNCATED);
+        return Err(Refusal::Truncated);
     }
-    StringRead::Found(StringPlace::plain(start, size), start + size)
+    Ok((StringPlace::plain(start, size), start + size))
 }
 
 // The string of at most `limit` bytes at the place `at`.
-pub fn read_string(s: &[u8], at: usize, limit: usize) -> StringRead
+pub fn read_string(s: &[u8], at: usize, limit: usize) -> Read<StringPlace>
     requires { limit ≤ value_limit }
     ensures { result ≡ read_string s.now at limit }
 {
     if s.len() <= at {
-        return StringRead::Refused(TRUNCATED);
+        return Err(Refusal::Truncated);
     }
     let first = s[at];
     let r = WireInt::read(s, at, WireInt::PREFIX7);
-    let IntRead::Value(n, start) = r else {
-        return StringRead::Refused(r.number());
+    let Ok((n, start)) = r else {
+        return Err(r.unwrap_err());
     };
     if H_BIT <= first {
         return read_packed(s, limit, n.value as usize, start);

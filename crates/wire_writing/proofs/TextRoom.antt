@@ -16,7 +16,7 @@ use Rattle.integers.proofs.Writing.{int-in-prefix}
 use Rattle.integers.proofs.Lengths.{int-length}
 use Rattle.huffman.specs.Packing.{pack, packed_size}
 use Rattle.packing.specs.Within.{packed_in, PackedOver}
-use Rattle.packing.specs.declared.pack.Packed.TheVariants.{Ends, Longer}
+use Rattle.std.proofs.Common.{Some, None}
 use Rattle.huffman.proofs.Packs.{packed-length}
 use Rattle.wire.specs.Text.{string_wire}
 use Rattle.wire_writing.specs.Room.{plain_wire, packed_length, RoomMade, tried, shut, told}
@@ -50,20 +50,20 @@ over-rest l i xs (y ∷ ys) h =
 nope : {X : Type 0} → ◌≡◌ {A = ℕ} 0 1 → X
 nope e = absurd (omega arith)
 
-ends-in : (xs : List ℕ) (at end next : ℕ) → Ends next ≡ packed_in xs at end → (next ≡ at + packed_size xs) × (next ≤ end)
+ends-in : (xs : List ℕ) (at end next : ℕ) → Some next ≡ packed_in xs at end → (next ≡ at + packed_size xs) × (next ≤ end)
 unfolding packed_in
 ends-in xs at end next e =
     either (leb (at + packed_size xs) end)
-    (λ t. let f : Ends next ≡ Ends (at + packed_size xs) = e ∙ pick_true (leb (at + packed_size xs) end) (Ends (at + packed_size xs)) Longer t in
+    (λ t. let f : Some next ≡ Some (at + packed_size xs) = e ∙ pick_true (leb (at + packed_size xs) end) (Some (at + packed_size xs)) None t in
     let n : next ≡ at + packed_size xs = cc in
     (n, omega (arith, leb-true (at + packed_size xs) end t)))
-    (λ t. let f : Ends next ≡ Longer = e ∙ pick-false (leb (at + packed_size xs) end) (Ends (at + packed_size xs)) Longer t in nope (cc))
+    (λ t. let f : Some next ≡ None = e ∙ pick-false (leb (at + packed_size xs) end) (Some (at + packed_size xs)) None t in nope (cc))
 
-longer-in : (xs : List ℕ) (at end : ℕ) → Longer ≡ packed_in xs at end → end < at + packed_size xs
+longer-in : (xs : List ℕ) (at end : ℕ) → None ≡ packed_in xs at end → end < at + packed_size xs
 unfolding packed_in
 longer-in xs at end e =
     either (leb (at + packed_size xs) end)
-    (λ t. let f : Longer ≡ Ends (at + packed_size xs) = e ∙ pick_true (leb (at + packed_size xs) end) (Ends (at + packed_size xs)) Longer t in nope (cc))
+    (λ t. let f : None ≡ Some (at + packed_size xs) = e ∙ pick_true (leb (at + packed_size xs) end) (Some (at + packed_size xs)) None t in nope (cc))
     (λ t. leb-false (at + packed_size xs) end t)
 
 -- ---- the bytes of a string
@@ -109,7 +109,7 @@ module _ (xs out out₁ : List ℕ) (at : ℕ) (r : PackedRoom) (small : Small x
       go (told a e o) = rw e (omega (arith, room-length, packed-length-string xs small a))
 
   -- packed bytes that do not fit: the string stands plain, whatever was written there
-  module _ (out₂ : List ℕ) (l : Longer ≡ packed_in xs r.start r.end) (o₂ : PackedOver xs r.start r.end out₁ out₂) where
+  module _ (out₂ : List ℕ) (l : None ≡ packed_in xs r.start r.end) (o₂ : PackedOver xs r.start r.end out₁ out₂) where
     record Scribbled : Type 0 where
       more : length xs ≤ packed_size xs
       bytes : List ℕ
@@ -158,7 +158,7 @@ module _ (xs out out₁ : List ℕ) (at : ℕ) (r : PackedRoom) (small : Small x
         rw w (e, o ∙ ap (λ (k : List ℕ). overlay k at (plain_wire xs)) s.stand ∙ over-rest out at s.bytes (plain_wire xs) s.fewer)
 
   -- packed bytes that fit
-  module _ (out₂ : List ℕ) (next : ℕ) (l : Ends next ≡ packed_in xs r.start r.end) (o₂ : PackedOver xs r.start r.end out₁ out₂) where
+  module _ (out₂ : List ℕ) (next : ℕ) (l : Some next ≡ packed_in xs r.start r.end) (o₂ : PackedOver xs r.start r.end out₁ out₂) where
     -- behind their length
     pub counted-written : r.counted ≡ true → (next ≡ at + length (string_wire xs)) × (out₂ ≡ overlay out at (string_wire xs))
     counted-written t = go m (ends-in xs r.start r.end next l)

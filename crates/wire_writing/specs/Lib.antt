@@ -1,2 +1,3 @@
--- How a string is written.
+-- How strings and names are written.
 pub mod Room
+pub mod Names

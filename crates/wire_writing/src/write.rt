@@ -1,15 +1,15 @@
 // Strings and names written at a place of the output. Each answers the place after what it wrote.
 ghost use Rattle.std.specs.Prelude.{◌≡◌, ℕ, ◌+◌, ◌^◌, ◌≤◌, length};
 ghost use Rattle.memory.specs.Bytes.{overlay};
-ghost use Rattle.integers.specs.Integer.{largest};
-ghost use Rattle.wire.specs.Text.{string_wire, name_limit, value_limit};
+ghost use Rattle.wire.specs.Text.{string_wire, value_limit};
 ghost use Rattle.wire.specs.Name.{Name, name_wire};
 ghost use Rattle.wire_writing.specs.Room.{plain_wire, RoomMade};
+ghost use Rattle.wire_writing.specs.Names.{HasRoom};
 
 use copying::copy::copy;
 use integers::integer::WireInt;
 use integers::number::TableIndex;
-use packing::pack::{Packed, pack, packed_size};
+use packing::pack::{pack, packed_size};
 use wire::text::H_BIT;
 
 // Where a string's packed bytes go, up to an end that they must not pass, and whether their length stands before them.
@@ -66,7 +66,7 @@ fn write_plain(src: &[u8], out: &mut [u8], at: usize) -> usize
 }
 
 // Writes the string `src` at the place `at`, and answers the place after it. Packed bytes that have no room are written over. `pack` is called in one place, so
-// that the compiler puts it there with its tables.
+// that the compiler puts it there.
 pub fn write_string(src: &[u8], out: &mut [u8], at: usize) -> usize
     requires src_len_bound { length src.now ≤ value_limit }
     requires src_in_bounds { at + length (string_wire src.now) ≤ length out.old }
@@ -75,8 +75,7 @@ pub fn write_string(src: &[u8], out: &mut [u8], at: usize) -> usize
 {
     let room = packed_room(src, out, at);
     let start = room.start;
-    let r = pack(src, out, start, room.end);
-    let Packed::Ends(next) = r else {
+    let Some(next) = pack(src, out, start, room.end) else {
         return write_plain(src, out, at);
     };
     if room.counted {
@@ -86,27 +85,35 @@ pub fn write_string(src: &[u8], out: &mut [u8], at: usize) -> usize
     next
 }
 
-// Writes a name by its index, and answers the place after it.
-pub fn write_name_index(index: TableIndex, out: &mut [u8], at: usize, width: u32, top: u32) -> usize
-    requires width_bound { (width ≤ 8) × (top + 2 ^ width ≤ 256) }
-    requires value_le_largest { index.value ≤ largest }
-    requires value_in_bounds { at + length (name_wire width top (Name.indexed index.value)) ≤ length out.old }
-    ensures value { result ≡ at + length (name_wire width top (Name.indexed index.value)) }
-    ensures out_after { out.new ≡ overlay out.old at (name_wire width top (Name.indexed index.value)) }
-{
-    let n = WireInt::new(index.value);
-    n.write(out, at, width, top)
+// A name as it is given to be written: by its index, or by its bytes.
+pub trait NameToWrite: Copy {
+    ghost says: { Self → Name };
+
+    // Writes it, and answers the place after it.
+    fn write_name(self, out: &mut [u8], at: usize, width: u32, top: u32) -> usize
+        requires width_bound { (width ≤ 8) × (top + 2 ^ width ≤ 256) }
+        requires name_bound { HasRoom (says self) }
+        requires name_in_bounds { at + length (name_wire width top (says self)) ≤ length out.old }
+        ensures value { result ≡ at + length (name_wire width top (says self)) }
+        ensures out_after { out.new ≡ overlay out.old at (name_wire width top (says self)) };
 }
 
-// Writes a name by its bytes, and answers the place after it.
-pub fn write_name_text(name: &[u8], out: &mut [u8], at: usize, width: u32, top: u32) -> usize
-    requires width_bound { (width ≤ 8) × (top + 2 ^ width ≤ 256) }
-    requires name_len_bound { length name.now ≤ name_limit }
-    requires name_in_bounds { at + length (name_wire width top (Name.literal name.now)) ≤ length out.old }
-    ensures value { result ≡ at + length (name_wire width top (Name.literal name.now)) }
-    ensures out_after { out.new ≡ overlay out.old at (name_wire width top (Name.literal name.now)) }
-{
-    let zero = WireInt::new(0);
-    let next = zero.write(out, at, width, top);
-    write_string(name, out, next)
+impl NameToWrite for TableIndex {
+    ghost says = { λ index. Name.indexed index.value };
+
+    #[tactic(auto, unfolding(wire::specs::Name::name_wire))]
+    fn write_name(self, out: &mut [u8], at: usize, width: u32, top: u32) -> usize {
+        let n = WireInt::new(self.value);
+        n.write(out, at, width, top)
+    }
+}
+
+impl NameToWrite for &[u8] {
+    ghost says = { λ name. Name.literal name.now };
+
+    fn write_name(self, out: &mut [u8], at: usize, width: u32, top: u32) -> usize {
+        let zero = WireInt::new(0);
+        let next = zero.write(out, at, width, top);
+        write_string(self, out, next)
+    }
 }

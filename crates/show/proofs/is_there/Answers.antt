@@ -1,27 +1,12 @@
-use mathlib.Core.Path.{refl}
-use mathlib.Core.Bool.{false}
 use borrow.Author.Tests.{eqb-true, not-true, not-false}
-use Rattle.memory.proofs.Order.{not-both}
 use Rattle.show.proofs.There.{plain-there, packed-there}
 use Rattle.show.proofs.is_there.Goals as goal
 
 -- `show::is_there` says yes only of a string that is there: its tests are what `plain-there` and `packed-there` ask for.
-pub returns-then-s-start : goal.returns-then-s-start
-returns-then-s-start c = λ e. not-both false e refl
-
-pub returns-then-s-start-2 : goal.returns-then-s-start-2
-returns-then-s-start-2 c = λ e. not-both false e refl
-
 pub returns-then-not-place : goal.returns-then-not-place
 returns-then-not-place c =
     let d = c in
     λ e. plain-there _ _ d.if-s-start.false d.if-s-start-2.false (not-true _ c.if-not-place.true) (eqb-true _ _ e)
-
-pub returns-then-size-gt-PACKED_LIMIT : goal.returns-then-size-gt-PACKED_LIMIT
-returns-then-size-gt-PACKED_LIMIT c = λ e. not-both false e refl
-
-pub returns-then-not-u : goal.returns-then-not-u
-returns-then-not-u c = λ e. not-both false e refl
 
 pub returns : goal.returns
 returns c =

@@ -29,7 +29,7 @@ insert-requires c =
     let u = c in
     let k = u in
     let a = k.args in
-    let e = sym u.find-f.ensures ∙ u.in-Vacant.is in
+    let e = sym u.find-f.ensures ∙ u.in-Err.is in
     let w = within _ forms in
     let room = leb-true (held_of a.m.now + (length a.name.now + length a.value.now + 32)) (limit_of a.m.now)
     (sym u.fits.ensures ∙ c.if-not-fits.false) in

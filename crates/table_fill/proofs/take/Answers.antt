@@ -12,4 +12,4 @@ pub remove-requires : goal.remove-requires
 remove-requires c =
     let known : Standing c.args.m.now = standing _ (λ k. search rules) (sym c.forms_decoder.ensures ∙ c.if-not-forms_decoder.false) in
     let f = c in
-    known.removing _ _ (sym f.find-f.ensures ∙ f.in-At.is)
+    known.removing _ _ (sym f.find-f.ensures ∙ f.in-Ok.is)

@@ -4,7 +4,4 @@ use Rattle.table_rows.proofs.open_row.Goals as goal
 pub returns : goal.returns
 unfolding row_opened
 returns c =
-    let third = c in
-    let second = third in
-    let first = second in
-    rw (c.open_u16.ensures, third.open_u8.ensures, second.open_offsets.ensures, first.open_u32.ensures)
+    rw (c.open_u16.ensures, c.open_u8.ensures, c.open_offsets.ensures, c.open_u32.ensures)

@@ -8,9 +8,7 @@ use Rattle.table_rows.proofs.record_insert.Goals as goal
 pub returns : goal.returns
 unfolding charged
 returns c =
-    let held = c in
-    let r = held in
-    let a = r.args in
-    record-stored a.m.now _ _ _ _ _ _ held.put_held.ensures c.put_count.ensures
-    (ap (λ (x : Account). x.held) r.after_insert-account.ensures ∙ ap (λ (k : ℕ). k + a.size) r.held_of.ensures)
-    (ap (λ (x : Account). x.count) r.after_insert-account.ensures ∙ ap (λ (k : ℕ). k + 1) r.count_of.ensures)
+    let a = c.args in
+    record-stored a.m.now _ _ _ _ _ _ c.put_held.ensures c.put_count.ensures
+    (ap (λ (x : Account). x.held) c.after_insert-account.ensures ∙ ap (λ (k : ℕ). k + a.size) c.held_of.ensures)
+    (ap (λ (x : Account). x.count) c.after_insert-account.ensures ∙ ap (λ (k : ℕ). k + 1) c.count_of.ensures)

@@ -1,11 +1,10 @@
-use native.Mathlib.Omega.{arith}
-use Rattle.columns.specs.Columns.{column_opened}
+use mathlib.Core.Path.{◌∙◌}
+use Rattle.memory.proofs.Numbers.{le_bytes-number_2}
+use Rattle.columns.proofs.Steps.{opened}
 use Rattle.columns.proofs.column.open_u16.Goals as goal
 
 -- `columns::column::open_u16` meets its contract.
-pub open-requires : goal.open-requires
-open-requires c = omega arith
-
 pub returns : goal.returns
-unfolding column_opened
-returns c = cc
+returns c =
+    let a = c.args in
+    opened 2 _ _ _ a.at a.place a.count a.x (c.to_le_bytes.ensures ∙ le_bytes-number_2 a.x) c.«open».ensures

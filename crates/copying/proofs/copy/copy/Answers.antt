@@ -1,24 +1,15 @@
-use Prim.Native.Nat.{ℕ, ◌+◌}
-use mathlib.Core.Path.{ap, ◌∙◌}
-use mathlib.Core.List.{List}
+use mathlib.Core.Path.{◌∙◌}
 use native.Mathlib.Omega.{arith}
-use borrow.Author.Rules.{rules}
-use Rattle.memory.specs.Bytes.{part, overlay}
-use Rattle.memory.proofs.Covering.{covers, covers-none, covers-last}
+use Rattle.memory.proofs.Covering.{two-words}
 use Rattle.copying.proofs.copy.copy.Goals as goal
+use Rattle.copying.proofs.copy.copy.Goals.{then-n-lt8, else-n-lt8+then-n-le16, else-n-lt8+else-n-le16}
 
-pub loop-i-init : goal.loop-i-init
-loop-i-init c = let a = c.args in (covers-none a.out.now a.src.now a.at, omega arith, search rules)
-
-pub loop-i-preserved : goal.loop-i-preserved
-loop-i-preserved c =
-    let l = c.loop-i in
+pub returns-clause-out_after : goal.returns-clause-out_after
+returns-clause-out_after c =
     let a = c.args in
-    let e = c.copy_eight.ensures ∙ ap (λ (o : List ℕ). overlay o (a.at + l.i) (part a.src.now l.i 8)) l.invariant.0 in
-    (e ∙ covers a.out.now a.src.now a.at l.i l.i 8 (omega arith) (omega arith) (omega arith), omega arith, search rules)
-
-pub returns : goal.returns
-returns c =
-    let l = c.loop-i in
-    let a = c.args in
-    record { value = search rules; out_after = covers-last a.out.now a.src.now a.at _ _ l.i 8 c.loop-i-test.false (omega arith) (omega arith) l.invariant.0 c.copy_eight-2.ensures }
+    elim c.if-n-lt8.branch [
+      | then-n-lt8 w ↦ w.out-is ∙ w.copy_short.ensures
+      | else-n-lt8+then-n-le16 w ↦
+          w.out-is ∙ two-words a.out.now a.src.now _ _ a.at 8 (omega (arith, w.if-n-lt8.false)) (omega (arith, w.if-n-le16.true)) w.copy_eight.ensures w.copy_eight-then-n-le16.ensures
+      | else-n-lt8+else-n-le16 w ↦ w.out-is ∙ w.copy_long.ensures
+    ]

@@ -10,7 +10,7 @@ use Rattle.decoder_block.proofs.Calls.{turned, leaves, no_state, out_of_turn}
 use Rattle.decoder_block.proofs.block.block.Goals as goal
 
 pub returns-then-not-forms_decoder : goal.returns-then-not-forms_decoder
-returns-then-not-forms_decoder c = let e = sym c.forms_decoder.ensures ∙ c.if-not-forms_decoder.true in let all = leaves (no_state _ _ _ _ _ e) c.refused.ensures refl refl in record { result_value = all.0; m_after = all.1.0; out_after = all.1.1 }
+returns-then-not-forms_decoder c = let e = sym c.forms_decoder.ensures ∙ c.if-not-forms_decoder.true in let all = leaves (no_state _ _ _ _ _ e) c.because.ensures refl refl in record { result_value = all.0; m_after = all.1.0; out_after = all.1.1 }
 
 pub turn_of-turn-requires : goal.turn_of-turn-requires
 turn_of-turn-requires c =
@@ -22,7 +22,7 @@ pub returns-in_default : goal.returns-in_default
 unfolding decoder_of
 returns-in_default c =
     let forms : forms_decoder c.args.m.now ≡ true = sym c.forms_decoder.ensures ∙ c.if-not-forms_decoder.false in
-    let e = none-given _ _ _ (sym c.turn_of-turn.ensures ∙ c.in_default.is) in let all = leaves (out_of_turn _ _ _ _ _ forms e) c.refused-in_default.ensures refl refl in record { result_value = all.0; m_after = all.1.0; out_after = all.1.1 }
+    let e = none-given _ _ _ (sym c.turn_of-turn.ensures ∙ c.in_default.is) in let all = leaves (out_of_turn _ _ _ _ _ forms e) c.because-in_default.ensures refl refl in record { result_value = all.0; m_after = all.1.0; out_after = all.1.1 }
 
 pub give-requires : goal.give-requires
 unfolding decoder_of
@@ -30,5 +30,5 @@ give-requires c =
     let forms : forms_decoder c.args.m.now ≡ true = sym c.forms_decoder.ensures ∙ c.if-not-forms_decoder.false in
     let stands : Stands c.args.m.now = record { small = search rules; forms = forms; state = refl } in (
       stands,
-      turned _ _ _ _ _ (sym c.turn_of-turn.ensures ∙ c.in-Of.is),
+      turned _ _ _ _ _ (sym c.turn_of-turn.ensures ∙ c.in-Some.is),
     )

@@ -1,4 +1,4 @@
-use Prim.Native.Nat.{◌-◌, ◌≤◌}
+use Prim.Native.Nat.{◌-◌}
 use mathlib.Core.Path.{◌≡◌}
 use Rattle.state.specs.Layout.{delete_count}
 use Rattle.decoder_collect.specs.Ready.{next_from}
@@ -6,7 +6,4 @@ use Rattle.decoder_collect.proofs.collect.first_ready.Given as goal
 
 -- `first_ready` meets its contract. The loop's invariant: the answer is that of the deletes that are left.
 abbrev pub invariant-loop-k : goal.invariant-loop-k
-invariant-loop-k l = (l.k ≤ delete_count l.m) × (next_from l.m (delete_count l.m) 0 ≡ next_from l.m (delete_count l.m - l.k) l.k)
-
-abbrev pub decreases-loop-k : goal.decreases-loop-k
-decreases-loop-k l = delete_count l.m - l.k
+invariant-loop-k l = next_from l.m (delete_count l.m) 0 ≡ next_from l.m (delete_count l.m - l.k) l.k

@@ -1,39 +1,19 @@
 use mathlib.Core.Path.{refl, sym, ◌∙◌}
-use native.Mathlib.Omega.{arith}
 use borrow.Author.Rules.{rules}
 use Rattle.model.specs.Parts.{ended}
-use Rattle.decoder.proofs.Standing.{Stands, meets, long}
-use Rattle.decoder.proofs.Calling.{close-no-state, close-above, close-done}
+use Rattle.decoder.proofs.Standing.{meets}
+use Rattle.decoder_ended.proofs.Closing.{refused-closing, named}
 use Rattle.decoder_ended.proofs.ended.ended.Goals as goal
 
-pub returns-then-not-forms_decoder : goal.returns-then-not-forms_decoder
-returns-then-not-forms_decoder c = let all = meets (close-no-state ended _ _ (sym c.forms_decoder.ensures ∙ c.if-not-forms_decoder.true)) c.refused.ensures refl in record { result_value = all.0; m_after = all.1 }
-
-pub returns-then-stream : goal.returns-then-stream
-returns-then-stream c =
-    let stands : Stands c.args.m.now = record {
-      small = search rules;
-      forms = sym c.forms_decoder.ensures ∙ c.if-not-forms_decoder.false;
-    } in
-    let all = meets (close-above ended _ _ stands (omega arith)) c.refused-then-stream.ensures refl in record { result_value = all.0; m_after = all.1 }
-
 pub close_both-requires : goal.close_both-requires
-close_both-requires c =
-    let stands : Stands c.args.m.now = record {
-      small = search rules;
-      forms = sym c.forms_decoder.ensures ∙ c.if-not-forms_decoder.false;
-    } in
-    let h = long _ stands in
-    rw c.new.ensures (omega arith, omega arith)
+close_both-requires c = let n = named ended _ (search rules) _ _ (sym c.stream_named.ensures ∙ c.in-Ok.is) in (n.low, n.long)
 
-pub returns : goal.returns
-returns c =
-    let stands : Stands c.args.m.now = record {
-      small = search rules;
-      forms = sym c.forms_decoder.ensures ∙ c.if-not-forms_decoder.false;
-    } in
-    let close = c in
-    let new = close.new in let all = meets
-    (close-done ended _ _ stands _ new.ensures (omega arith))
-    c.done.ensures
-    close.close_both.ensures in record { result_value = all.0; m_after = all.1 }
+pub returns-in-Ok : goal.returns-in-Ok
+returns-in-Ok c =
+    let n = named ended _ (search rules) _ _ (sym c.stream_named.ensures ∙ c.in-Ok.is) in
+    let all = meets n.closes c.done.ensures c.close_both.ensures in record { result_value = all.0; m_after = all.1 }
+
+pub returns-in-Err : goal.returns-in-Err
+returns-in-Err c =
+    let all = meets (refused-closing ended _ (search rules) _ _ (sym c.stream_named.ensures ∙ c.in-Err.is)) c.because.ensures refl in
+    record { result_value = all.0; m_after = all.1 }

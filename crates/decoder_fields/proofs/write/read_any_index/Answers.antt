@@ -7,7 +7,7 @@ pub returns-in_default : goal.returns-in_default
 returns-in_default c = ap index_in (sym c.in_default.is ∙ c.read_representation-r.ensures)
 
 pub returns-in_default-place : goal.returns-in_default-place
-returns-in_default-place c = place_read c.in-Found.is c.in_default-place.is ∙ ap index_in c.read_representation-r.ensures
+returns-in_default-place c = place_read c.in-Ok.is c.in_default-place.is ∙ ap index_in c.read_representation-r.ensures
 
 pub returns : goal.returns
-returns c = place_read c.in-Found.is c.in-Indexed.is ∙ ap index_in c.read_representation-r.ensures
+returns c = place_read c.in-Ok.is c.in-Indexed.is ∙ ap index_in c.read_representation-r.ensures

@@ -6,4 +6,4 @@ use Rattle.decoder_fields.proofs.write.read_index.Goals as goal
 pub returns : goal.returns
 returns c =
     let p = c.requires in
-    sym (ap index_in (short-index-reads _ _ p.0 p.1 _ _ (sym c.short_index-i.ensures ∙ c.in-Found.is)))
+    sym (ap index_in (short-index-reads _ _ p.0 p.1 _ _ (sym c.short_index-i.ensures ∙ c.in-Some.is)))

@@ -2,13 +2,13 @@ use native.Mathlib.Omega.{arith}
 use mathlib.Core.Path.{◌≡◌, sym, ap, ◌∙◌}
 use Rattle.blocks.specs.Reading.{read_representation}
 use Rattle.blocks.specs.declared.read.RepresentationPlace.TheVariants.{Indexed}
-use Rattle.blocks.specs.declared.read.RepresentationRead.TheVariants.{Found}
 use Rattle.blocks.proofs.Bounds.{representation-good}
 use Rattle.decoder_survey.proofs.Rest.{no-refusal}
 use Rattle.decoder_fields.specs.Indexes.{index_in, IsLiteral}
 use Rattle.decoder_fields.proofs.Indexing.{entry_read, other-read, low-other, high-other}
 use Rattle.decoder_fields.proofs.Writing.{writing-on, writing-next, writing-turn, writing-ends}
 use Rattle.decoder_fields.proofs.write.write_rest.Goals as goal
+use Rattle.std.specs.Prelude.{Ok}
 
 pub loop-at-init : goal.loop-at-init
 loop-at-init c = writing-on _ _ _ _ _ c.requires.unwritten
@@ -24,18 +24,18 @@ returns-in_default c =
 
 pub write_indexed-to-requires : goal.write_indexed-to-requires
 write_indexed-to-requires c =
-    let entry : read_representation c.args.s.now c.loop-at.at ≡ Found (Indexed c.in-Entry.index) c.in-Entry.next = entry_read _ _ _ (sym c.in-Entry.is ∙ c.read_index-i.ensures) in
+    let entry : read_representation c.args.s.now c.loop-at.at ≡ Ok (Indexed c.in-Some.index, c.in-Some.next) = entry_read _ _ _ (sym c.in-Some.is ∙ c.read_index-i.ensures) in
     let known = c in
     let w = writing-next _ _ _ _ _ _ _ known.loop-at.invariant known.loop-at-test.true _ _ entry in record { text_value = (known.static_text-text.ensures, known.requires.stands, (representation-good _ _ _ _ entry).places.0); field = w.0; value_in_bounds = w.1 }
 
 pub loop-at-smaller-then-s-at-ge-INDEXED : goal.loop-at-smaller-then-s-at-ge-INDEXED
 loop-at-smaller-then-s-at-ge-INDEXED c =
-    let entry : read_representation c.args.s.now c.loop-at.at ≡ Found (Indexed c.in-Entry.index) c.in-Entry.next = entry_read _ _ _ (sym c.in-Entry.is ∙ c.read_index-i.ensures) in
+    let entry : read_representation c.args.s.now c.loop-at.at ≡ Ok (Indexed c.in-Some.index, c.in-Some.next) = entry_read _ _ _ (sym c.in-Some.is ∙ c.read_index-i.ensures) in
     let g = representation-good _ _ _ _ entry in omega (arith, g.past, g.inside)
 
 pub loop-at-preserved-then-s-at-ge-INDEXED : goal.loop-at-preserved-then-s-at-ge-INDEXED
 loop-at-preserved-then-s-at-ge-INDEXED c =
-    let entry : read_representation c.args.s.now c.loop-at.at ≡ Found (Indexed c.in-Entry.index) c.in-Entry.next = entry_read _ _ _ (sym c.in-Entry.is ∙ c.read_index-i.ensures) in
+    let entry : read_representation c.args.s.now c.loop-at.at ≡ Ok (Indexed c.in-Some.index, c.in-Some.next) = entry_read _ _ _ (sym c.in-Some.is ∙ c.read_index-i.ensures) in
     let known = c in
     let w = c.write_indexed-to.ensures in
     writing-turn _ _ _ _ _ _ _ known.loop-at.invariant known.loop-at-test.true _ _ entry _ _ w.value w.out_after
@@ -50,19 +50,19 @@ returns-in_default-r c =
 
 pub write_literal_place-to-requires : goal.write_literal_place-to-requires
 write_literal_place-to-requires c =
-    let read : read_representation c.args.s.now c.loop-at.at ≡ Found c.in-Found.place c.in-Found.next = sym c.read_literal_at-r.ensures ∙ c.in-Found.is in
-    let literal : IsLiteral c.in-Found.place = other-read c.in-Found.place c.in-Found.next (low-other _ _ c.loop-at-test.true c.if-s-at-ge-INDEXED.false ∙ ap index_in read) in
+    let read : read_representation c.args.s.now c.loop-at.at ≡ Ok (c.in-Ok.place, c.in-Ok.next) = sym c.read_literal_at-r.ensures ∙ c.in-Ok.is in
+    let literal : IsLiteral c.in-Ok.place = other-read c.in-Ok.place c.in-Ok.next (low-other _ _ c.loop-at-test.true c.if-s-at-ge-INDEXED.false ∙ ap index_in read) in
     let known = c in
     let w = writing-next _ _ _ _ _ _ _ known.loop-at.invariant known.loop-at-test.true _ _ read in record { text_value = (known.static_text-text.ensures, known.requires.stands); literal = literal; in_bytes = (representation-good _ _ _ _ read).places; field = w.0; r_in_bounds = w.1 }
 
 pub loop-at-smaller : goal.loop-at-smaller
 loop-at-smaller c =
-    let read : read_representation c.args.s.now c.loop-at.at ≡ Found c.in-Found.place c.in-Found.next = sym c.read_literal_at-r.ensures ∙ c.in-Found.is in
+    let read : read_representation c.args.s.now c.loop-at.at ≡ Ok (c.in-Ok.place, c.in-Ok.next) = sym c.read_literal_at-r.ensures ∙ c.in-Ok.is in
     let g = representation-good _ _ _ _ read in omega (arith, g.past, g.inside)
 
 pub loop-at-preserved : goal.loop-at-preserved
 loop-at-preserved c =
-    let read : read_representation c.args.s.now c.loop-at.at ≡ Found c.in-Found.place c.in-Found.next = sym c.read_literal_at-r.ensures ∙ c.in-Found.is in
+    let read : read_representation c.args.s.now c.loop-at.at ≡ Ok (c.in-Ok.place, c.in-Ok.next) = sym c.read_literal_at-r.ensures ∙ c.in-Ok.is in
     let known = c in
     let w = c.write_literal_place-to.ensures in
     writing-turn _ _ _ _ _ _ _ known.loop-at.invariant known.loop-at-test.true _ _ read _ _ w.value w.out_after

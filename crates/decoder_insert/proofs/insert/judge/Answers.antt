@@ -20,8 +20,8 @@ fits-requires c =
 
 pub returns-then-not-fits : goal.returns-then-not-fits
 returns-then-not-fits c =
-    sym (judged-over _ _ _ _ (sym c.find-f.ensures ∙ c.in-Vacant.is) (sym c.fits.ensures ∙ c.if-not-fits.true))
+    sym (judged-over _ _ _ _ (sym c.find-f.ensures ∙ c.in-Err.is) (sym c.fits.ensures ∙ c.if-not-fits.true))
 
 pub returns : goal.returns
 returns c =
-    sym (judged-room _ _ _ _ (sym c.find-f.ensures ∙ c.in-Vacant.is) (sym c.fits.ensures ∙ c.if-not-fits.false))
+    sym (judged-room _ _ _ _ (sym c.find-f.ensures ∙ c.in-Err.is) (sym c.fits.ensures ∙ c.if-not-fits.false))

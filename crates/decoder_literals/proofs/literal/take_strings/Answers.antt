@@ -27,9 +27,9 @@ returns-in_default c =
 pub take_string-requires : goal.take_string-requires
 take_string-requires c =
     let flagged : List ℕ = let a = c.args in set a.out.now a.to c.flag_of.result in
-    let name : let a = c.args in TookString a.s.now (a.at + 1) (set a.out.now a.to (flag_of (get_or a.s.now a.at 0))) c.take_string-n.new.out (a.to + 1) c.in-Ends.next c.in-Ends.after = let a = c.args in
-    let T = subst (StringTaken a.s.now (a.at + 1) flagged c.take_string-n.new.out (a.to + 1)) c.in-Ends.is c.take_string-n.ensures in
-    subst (λ (b : ℕ). TookString a.s.now (a.at + 1) (set a.out.now a.to b) c.take_string-n.new.out (a.to + 1) c.in-Ends.next c.in-Ends.after) c.flag_of.ensures T in
+    let name : let a = c.args in TookString a.s.now (a.at + 1) (set a.out.now a.to (flag_of (get_or a.s.now a.at 0))) c.take_string-n.new.out (a.to + 1) c.in-Some.next c.in-Some.after = let a = c.args in
+    let T = subst (StringTaken a.s.now (a.at + 1) flagged c.take_string-n.new.out (a.to + 1)) c.in-Some.is c.take_string-n.ensures in
+    subst (λ (b : ℕ). TookString a.s.now (a.at + 1) (set a.out.now a.to b) c.take_string-n.new.out (a.to + 1) c.in-Some.next c.in-Some.after) c.flag_of.ensures T in
     let a = c.args in
     omega (arith, name.fits, c.take_string-n, length-set a.out.now a.to (flag_of (get_or a.s.now a.at 0)), length-set a.out.now a.to c.flag_of.result)
 
@@ -39,9 +39,9 @@ shape_of-out c = let a = c.args in omega (arith, c.take_string, c.take_string-n,
 pub returns : goal.returns
 returns c =
     let flagged : List ℕ = let a = c.args in set a.out.now a.to c.flag_of.result in
-    let name : let a = c.args in TookString a.s.now (a.at + 1) (set a.out.now a.to (flag_of (get_or a.s.now a.at 0))) c.take_string-n.new.out (a.to + 1) c.in-Ends.next c.in-Ends.after = let a = c.args in
-    let T = subst (StringTaken a.s.now (a.at + 1) flagged c.take_string-n.new.out (a.to + 1)) c.in-Ends.is c.take_string-n.ensures in
-    subst (λ (b : ℕ). TookString a.s.now (a.at + 1) (set a.out.now a.to b) c.take_string-n.new.out (a.to + 1) c.in-Ends.next c.in-Ends.after) c.flag_of.ensures T in
+    let name : let a = c.args in TookString a.s.now (a.at + 1) (set a.out.now a.to (flag_of (get_or a.s.now a.at 0))) c.take_string-n.new.out (a.to + 1) c.in-Some.next c.in-Some.after = let a = c.args in
+    let T = subst (StringTaken a.s.now (a.at + 1) flagged c.take_string-n.new.out (a.to + 1)) c.in-Some.is c.take_string-n.ensures in
+    subst (λ (b : ℕ). TookString a.s.now (a.at + 1) (set a.out.now a.to b) c.take_string-n.new.out (a.to + 1) c.in-Some.next c.in-Some.after) c.flag_of.ensures T in
     let start = c in
     let t = c.take_string in
     λ m. strings-taken m _ _ start.requires.0 start.requires.1 (omega (arith, c.if-s-at-ne0.false)) start.args.out.now _ _ _ _ name t.new.out t.result t.ensures

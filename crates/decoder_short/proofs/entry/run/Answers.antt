@@ -41,16 +41,16 @@ returns-in_default c =
 
 pub loop-at-smaller : goal.loop-at-smaller
 loop-at-smaller c =
-    let field : let l = c.loop-at in Took c.args.m.now c.args.s.now l.at l.out c.take_entry-l.new.out l.to c.in-Ends.next c.in-Ends.after = let l = c.loop-at in
+    let field : let l = c.loop-at in Took c.args.m.now c.args.s.now l.at l.out c.take_entry-l.new.out l.to c.in-Some.next c.in-Some.after = let l = c.loop-at in
     let t = c.take_entry-l in
-    subst (FieldTaken c.args.m.now c.args.s.now l.at l.out t.new.out l.to) c.in-Ends.is t.ensures in
+    subst (FieldTaken c.args.m.now c.args.s.now l.at l.out t.new.out l.to) c.in-Some.is t.ensures in
     let g = representation-good _ _ _ _ field.reads in omega (arith, g.past, g.inside)
 
 pub loop-at-preserved : goal.loop-at-preserved
 loop-at-preserved c =
-    let field : let l = c.loop-at in Took c.args.m.now c.args.s.now l.at l.out c.take_entry-l.new.out l.to c.in-Ends.next c.in-Ends.after = let l = c.loop-at in
+    let field : let l = c.loop-at in Took c.args.m.now c.args.s.now l.at l.out c.take_entry-l.new.out l.to c.in-Some.next c.in-Some.after = let l = c.loop-at in
     let t = c.take_entry-l in
-    subst (FieldTaken c.args.m.now c.args.s.now l.at l.out t.new.out l.to) c.in-Ends.is t.ensures in
+    subst (FieldTaken c.args.m.now c.args.s.now l.at l.out t.new.out l.to) c.in-Some.is t.ensures in
     all-turn _ _ _ _ _ _ _ _ c.loop-at.invariant _ _ _ field
 
 pub shape_of-out : goal.shape_of-out

@@ -4,7 +4,7 @@ use Rattle.wire.proofs.TextBounds.{string-size}
 use Rattle.fields.specs.Form.{field_size}
 use Rattle.blocks.specs.Reading.{InBytes}
 use Rattle.blocks.specs.declared.read.RepresentationPlace.{RepresentationPlace}
-use Rattle.decoder_survey.specs.declared.measure.Measured.{Measured}
+use Rattle.decoder_survey.specs.declared.measure.Survey.{Survey}
 use Rattle.decoder_survey.specs.Measure.{field_at, field_measured}
 use Rattle.decoder_survey.proofs.Fields.{measured, literal-by, means-literal}
 use Rattle.decoder_survey.proofs.measure.field_measured.Goals as goal
@@ -30,7 +30,7 @@ field_size-requires c =
 
 pub returns-in-Indexed : goal.returns-in-Indexed
 returns-in-Indexed c =
-    let measure-of : RepresentationPlace → Measured = λ r. field_measured (field_at c.args.m.now c.args.s.now r) in
+    let measure-of : RepresentationPlace → Survey = λ r. field_measured (field_at c.args.m.now c.args.s.now r) in
     c.indexed_size.ensures ∙ sym (ap measure-of c.in-Indexed.is)
 
 pub returns-in-Index : goal.returns-in-Index
@@ -41,7 +41,7 @@ returns-in-Index c =
 
 pub returns-in-Text : goal.returns-in-Text
 returns-in-Text c =
-    let measure-of : RepresentationPlace → Measured = λ r. field_measured (field_at c.args.m.now c.args.s.now r) in
+    let measure-of : RepresentationPlace → Survey = λ r. field_measured (field_at c.args.m.now c.args.s.now r) in
     let by_bytes = literal-by c.in-Literal.is c.in-Text.is in
     let known = c in
     let start = known in

@@ -7,13 +7,13 @@ pub returns-then-limit : goal.returns-then-limit
 returns-then-limit c =
     let a = c.args in
     let e = start-over a.m.now a.limit c.if-limit.true in
-    record { result_value = answer-of e c.refused.ensures; m_after = memory-of e refl }
+    record { result_value = answer-of e c.because.ensures; m_after = memory-of e refl }
 
 pub returns-then-m-lt-ENCODER_LENGTH : goal.returns-then-m-lt-ENCODER_LENGTH
 returns-then-m-lt-ENCODER_LENGTH c =
     let a = c.args in
     let e = start-short a.m.now a.limit c.if-limit.false c.if-m-lt-ENCODER_LENGTH.true in
-    record { result_value = answer-of e c.refused-then-m-lt-ENCODER_LENGTH.ensures; m_after = memory-of e refl }
+    record { result_value = answer-of e c.because-then-m-lt-ENCODER_LENGTH.ensures; m_after = memory-of e refl }
 
 pub returns : goal.returns
 returns c =

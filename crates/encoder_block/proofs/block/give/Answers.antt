@@ -1,40 +1,34 @@
+use mathlib.Core.Path.{sym, ◌∙◌}
 use native.Mathlib.Omega.{arith}
-use Rattle.memory.specs.Bytes.{Small}
 use Rattle.parts.specs.Turn.{part_in}
-use Rattle.encoder_block.proofs.Giving.{tells-kept, Ready, its-turn, long-memory, not-fitting, fitting, still-forms, still-room, still-passed}
+use Rattle.encoder_block.proofs.Giving.{tells-kept, Ready, ready-by, its-turn, long-memory, fitting, done-answer, still-forms, still-room, still-passed}
 use Rattle.encoder_block.proofs.Giving.{refers-length, gives}
 use Rattle.encoder_block.proofs.block.give.Goals as goal
 
-pub room_answer-answer-requires : goal.room_answer-answer-requires
-room_answer-answer-requires c =
+pub room_answer-requires : goal.room_answer-requires
+room_answer-requires c =
     let a = c.args in
     let p = c.requires in
-    let small : Small a.m.now = λ k. grind arith in
-    let ready : Ready a.m.now a.stream.value (part_in a.part) a.s.now =
-    record { small = small; forms = p.m_value.0; turn = p.m_value.1; fields = p.reads_well.0; read = p.reads_well.1 } in
+    let ready : Ready a.m.now a.stream.value (part_in a.part) a.s.now = ready-by (λ k. grind arith) p.m_value p.reads_well in
     record { m_value = (p.m_value.0, (its-turn ready).0); reads_well = p.reads_well }
 
-pub returns-then-answer-ne0 : goal.returns-then-answer-ne0
-returns-then-answer-ne0 c =
+pub returns-in-Err : goal.returns-in-Err
+returns-in-Err c =
     let a = c.args in
     let p = c.requires in
-    let small : Small a.m.now = λ k. grind arith in
-    let ready : Ready a.m.now a.stream.value (part_in a.part) a.s.now =
-    record { small = small; forms = p.m_value.0; turn = p.m_value.1; fields = p.reads_well.0; read = p.reads_well.1 } in
-    let kept = c.room_answer-answer.ensures in
-    let refused = not-fitting ready a.out.now _ kept.value c.if-answer-ne0.true in
-    let all = tells-kept _ _ _ _ refused _ c.refused.ensures _ _ kept.m_unchanged kept.out_unchanged in
+    let ready : Ready a.m.now a.stream.value (part_in a.part) a.s.now = ready-by (λ k. grind arith) p.m_value p.reads_well in
+    let kept = c.room_answer.ensures in
+    let refused = fitting ready a.out.now _ (sym c.in-Err.is ∙ kept.value) in
+    let all = tells-kept _ _ _ _ refused _ c.because.ensures _ _ kept.m_unchanged kept.out_unchanged in
     record { result_value = all.0; m_after = all.1.0; out_after = all.1.1 }
 
 pub write_list-n-requires : goal.write_list-n-requires
 write_list-n-requires c =
     let a = c.args in
     let p = c.requires in
-    let small : Small a.m.now = λ k. grind arith in
-    let ready : Ready a.m.now a.stream.value (part_in a.part) a.s.now =
-    record { small = small; forms = p.m_value.0; turn = p.m_value.1; fields = p.reads_well.0; read = p.reads_well.1 } in
-    let kept = c.room_answer-answer.ensures in
-    let room = fitting ready a.out.now _ kept.value c.if-answer-ne0.false in
+    let ready : Ready a.m.now a.stream.value (part_in a.part) a.s.now = ready-by (λ k. grind arith) p.m_value p.reads_well in
+    let kept = c.room_answer.ensures in
+    let room = fitting ready a.out.now _ (sym (done-answer _ c.in_default.not-Err) ∙ kept.value) in
     record {
       m_value = (still-forms ready a.out.now _ _ kept.m_unchanged kept.out_unchanged, (its-turn ready).0);
       reads_well = p.reads_well;
@@ -45,11 +39,9 @@ pub close_after-requires : goal.close_after-requires
 close_after-requires c =
     let a = c.args in
     let p = c.requires in
-    let small : Small a.m.now = λ k. grind arith in
-    let ready : Ready a.m.now a.stream.value (part_in a.part) a.s.now =
-    record { small = small; forms = p.m_value.0; turn = p.m_value.1; fields = p.reads_well.0; read = p.reads_well.1 } in
-    let kept = c.room_answer-answer.ensures in
-    let room = fitting ready a.out.now _ kept.value c.if-answer-ne0.false in
+    let ready : Ready a.m.now a.stream.value (part_in a.part) a.s.now = ready-by (λ k. grind arith) p.m_value p.reads_well in
+    let kept = c.room_answer.ensures in
+    let room = fitting ready a.out.now _ (sym (done-answer _ c.in_default.not-Err) ∙ kept.value) in
     let w = c.write_list-n.ensures in
     let passed =
     still-passed ready a.out.now _ _ kept.m_unchanged kept.out_unchanged room.0 _ _ _ (w.value, (w.m_after, w.out_after)) in
@@ -60,11 +52,9 @@ pub overflow_cast-n : goal.overflow_cast-n
 overflow_cast-n c =
     let a = c.args in
     let p = c.requires in
-    let small : Small a.m.now = λ k. grind arith in
-    let ready : Ready a.m.now a.stream.value (part_in a.part) a.s.now =
-    record { small = small; forms = p.m_value.0; turn = p.m_value.1; fields = p.reads_well.0; read = p.reads_well.1 } in
-    let kept = c.room_answer-answer.ensures in
-    let room = fitting ready a.out.now _ kept.value c.if-answer-ne0.false in
+    let ready : Ready a.m.now a.stream.value (part_in a.part) a.s.now = ready-by (λ k. grind arith) p.m_value p.reads_well in
+    let kept = c.room_answer.ensures in
+    let room = fitting ready a.out.now _ (sym (done-answer _ c.in_default.not-Err) ∙ kept.value) in
     let w = c.write_list-n.ensures in
     let passed =
     still-passed ready a.out.now _ _ kept.m_unchanged kept.out_unchanged room.0 _ _ _ (w.value, (w.m_after, w.out_after)) in
@@ -74,11 +64,9 @@ pub returns : goal.returns
 returns c =
     let a = c.args in
     let p = c.requires in
-    let small : Small a.m.now = λ k. grind arith in
-    let ready : Ready a.m.now a.stream.value (part_in a.part) a.s.now =
-    record { small = small; forms = p.m_value.0; turn = p.m_value.1; fields = p.reads_well.0; read = p.reads_well.1 } in
-    let kept = c.room_answer-answer.ensures in
-    let room = fitting ready a.out.now _ kept.value c.if-answer-ne0.false in
+    let ready : Ready a.m.now a.stream.value (part_in a.part) a.s.now = ready-by (λ k. grind arith) p.m_value p.reads_well in
+    let kept = c.room_answer.ensures in
+    let room = fitting ready a.out.now _ (sym (done-answer _ c.in_default.not-Err) ∙ kept.value) in
     let w = c.write_list-n.ensures in
     let passed =
     still-passed ready a.out.now _ _ kept.m_unchanged kept.out_unchanged room.0 _ _ _ (w.value, (w.m_after, w.out_after)) in

@@ -41,7 +41,7 @@ returns-then-out-n c =
     let a = c.args in
     let p = c.requires in
     let e = found-short a.m.now small p.m_value a.index.value a.place p.m_value_2.0 p.m_value_2.1 _ _ _
-    nontrailer trailer c.delete_size-n.ensures.0 a.out.now c.if-out-n.true in record { result_value = answer-of e c.refused.ensures; m_after = memory-of e refl; out_after = output-of e refl }
+    nontrailer trailer c.delete_size-n.ensures.0 a.out.now c.if-out-n.true in record { result_value = answer-of e c.because.ensures; m_after = memory-of e refl; out_after = output-of e refl }
 
 pub write_delete-requires : goal.write_delete-requires
 write_delete-requires c =

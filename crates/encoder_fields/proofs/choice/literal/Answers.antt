@@ -2,8 +2,8 @@ use mathlib.Core.Path.{sym, ap}
 use Rattle.encoder_fields.specs.Naming.{literal_with}
 use Rattle.encoder_fields.proofs.choice.literal.Goals as goal
 
-pub returns-in-Index : goal.returns-in-Index
-returns-in-Index c = sym (ap literal_with c.in-Index.is)
+pub returns-in-Some : goal.returns-in-Some
+returns-in-Some c = sym (ap literal_with c.in-Some.is)
 
-pub returns-in-Bytes : goal.returns-in-Bytes
-returns-in-Bytes c = sym (ap literal_with c.in-Bytes.is)
+pub returns-in-None : goal.returns-in-None
+returns-in-None c = sym (ap literal_with c.in-None.is)

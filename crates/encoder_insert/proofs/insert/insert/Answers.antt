@@ -17,7 +17,7 @@ pub returns-then-not-forms_encoder : goal.returns-then-not-forms_encoder
 returns-then-not-forms_encoder c =
     let a = c.args in
     let e = insert-no-state a.m.now a.name.now a.value.now a.out.now (sym c.forms_encoder.ensures ∙ c.if-not-forms_encoder.true) in
-    record { result_value = answer-of e c.refused.ensures; m_after = memory-of e refl; out_after = output-of e refl }
+    record { result_value = answer-of e c.because.ensures; m_after = memory-of e refl; out_after = output-of e refl }
 
 pub returns-then-name-gt-NAME_LIMIT : goal.returns-then-name-gt-NAME_LIMIT
 returns-then-name-gt-NAME_LIMIT c =
@@ -25,7 +25,7 @@ returns-then-name-gt-NAME_LIMIT c =
     let small : Small a.m.now = λ k. grind arith in
     let forms : forms_encoder a.m.now ≡ true = sym c.forms_encoder.ensures ∙ c.if-not-forms_encoder.false in
     let e = insert-name-long a.m.now small forms a.name.now a.value.now a.out.now c.if-name-gt-NAME_LIMIT.true in
-    record { result_value = answer-of e c.refused-then-name-gt-NAME_LIMIT.ensures; m_after = memory-of e refl; out_after = output-of e refl }
+    record { result_value = answer-of e c.because-then-name-gt-NAME_LIMIT.ensures; m_after = memory-of e refl; out_after = output-of e refl }
 
 pub returns-then-value-gt-VALUE_LIMIT : goal.returns-then-value-gt-VALUE_LIMIT
 returns-then-value-gt-VALUE_LIMIT c =
@@ -33,7 +33,7 @@ returns-then-value-gt-VALUE_LIMIT c =
     let small : Small a.m.now = λ k. grind arith in
     let forms : forms_encoder a.m.now ≡ true = sym c.forms_encoder.ensures ∙ c.if-not-forms_encoder.false in
     let e = insert-value-long a.m.now small forms a.name.now a.value.now a.out.now c.if-name-gt-NAME_LIMIT.false c.if-value-gt-VALUE_LIMIT.true in
-    record { result_value = answer-of e c.refused-then-value-gt-VALUE_LIMIT.ensures; m_after = memory-of e refl; out_after = output-of e refl }
+    record { result_value = answer-of e c.because-then-value-gt-VALUE_LIMIT.ensures; m_after = memory-of e refl; out_after = output-of e refl }
 
 pub fits-requires : goal.fits-requires
 fits-requires c =
@@ -49,7 +49,7 @@ returns-then-not-fits c =
     let forms : forms_encoder a.m.now ≡ true = sym c.forms_encoder.ensures ∙ c.if-not-forms_encoder.false in
     let over = leb-false (held_of a.m.now + (length a.name.now + length a.value.now + 32)) (limit_of a.m.now) (sym c.fits.ensures ∙ c.if-not-fits.true) in
     let e = insert-over a.m.now small forms a.name.now a.value.now a.out.now c.if-name-gt-NAME_LIMIT.false c.if-value-gt-VALUE_LIMIT.false over in
-    record { result_value = answer-of e c.refused-then-not-fits.ensures; m_after = memory-of e refl; out_after = output-of e refl }
+    record { result_value = answer-of e c.because-then-not-fits.ensures; m_after = memory-of e refl; out_after = output-of e refl }
 
 pub insert_fitting-requires : goal.insert_fitting-requires
 insert_fitting-requires c =

@@ -5,13 +5,13 @@ use mathlib.Core.List.{List}
 use lib.ListN.{length}
 use Rattle.memory.specs.Bytes.{Small, overlay}
 use Rattle.memory.proofs.Order.{pick_true, pick-false}
-use Rattle.fields.specs.Reading.{field_of}
 use Rattle.blocks.specs.Representation.{Representation, representation_wire}
 use Rattle.model.specs.Encoder.{choose}
 use Rattle.state.specs.EncoderState.{encoder_of}
 use Rattle.parts.specs.Turn.{part_in}
+use Rattle.encoder_fields.specs.Measure.{as_field}
 use Rattle.encoder_fields.specs.Refer.{entered_by}
-use Rattle.encoder_fields.proofs.Fields.{field-fine}
+use Rattle.encoder_fields.proofs.Fields.{listed-fine}
 use Rattle.encoder_references.proofs.Entering.{entered-choice}
 use Rattle.encoder_passes.proofs.Writing.{choice-fine}
 use Rattle.encoder_passes.proofs.write.write_field.Goals as goal
@@ -23,8 +23,8 @@ pub returns-then-not-write : goal.returns-then-not-write
 returns-then-not-write c =
     let a = c.args in
     let e = c.choose_field-choice.ensures in
-    let refers : List ℕ = entered_by a.m.now a.stream.value (part_in a.part) (choose (encoder_of a.m.now).entries (field_of a.s.now a.f)) in
-    let writes : List ℕ = overlay a.out.now a.at (representation_wire (choose (encoder_of a.m.now).entries (field_of a.s.now a.f))) in
+    let refers : List ℕ = entered_by a.m.now a.stream.value (part_in a.part) (choose (encoder_of a.m.now).entries (as_field a.f)) in
+    let writes : List ℕ = overlay a.out.now a.at (representation_wire (choose (encoder_of a.m.now).entries (as_field a.f))) in
     record {
       value = ap (λ (n : ℕ). a.at + n) (c.choice_size.ensures.0 ∙ ap (λ (r : Representation). length (representation_wire r)) e);
       m_after = sym (pick-false a.write refers a.m.now c.if-not-write.true);
@@ -42,8 +42,7 @@ write_choice-requires c =
     let p = c.requires in
     let small : Small a.m.now = λ k. grind arith in
     record {
-      in_field = p.in_field;
-      fine_representation = choice-fine _ small p.m_value.0 _ (field-fine _ _ p.in_field) c.choose_field-choice.result e;
+      fine_representation = choice-fine _ small p.m_value.0 _ (listed-fine a.f) c.choose_field-choice.result e;
       choice_in_bounds =
           subst (λ (r : Representation). a.at + length (representation_wire r) ≤ length a.out.now) (sym e) (p.f_in_bounds c.if-not-write.false);
     }
@@ -52,14 +51,14 @@ pub returns : goal.returns
 returns c =
     let a = c.args in
     let e = c.choose_field-choice.ensures in
-    let refers : List ℕ = entered_by a.m.now a.stream.value (part_in a.part) (choose (encoder_of a.m.now).entries (field_of a.s.now a.f)) in
-    let writes : List ℕ = overlay a.out.now a.at (representation_wire (choose (encoder_of a.m.now).entries (field_of a.s.now a.f))) in
+    let refers : List ℕ = entered_by a.m.now a.stream.value (part_in a.part) (choose (encoder_of a.m.now).entries (as_field a.f)) in
+    let writes : List ℕ = overlay a.out.now a.at (representation_wire (choose (encoder_of a.m.now).entries (as_field a.f))) in
     let wrote = c.write_choice.ensures in
     record {
       value = wrote.value ∙ ap (λ (r : Representation). a.at + length (representation_wire r)) e;
       m_after =
           c.enter_choice.ensures
-          ∙ entered-choice a.m.now a.stream.value (part_in a.part) (field_of a.s.now a.f) c.choose_field-choice.result
+          ∙ entered-choice a.m.now a.stream.value (part_in a.part) (as_field a.f) c.choose_field-choice.result
           ∙ ap (entered_by a.m.now a.stream.value (part_in a.part)) e
           ∙ sym (pick_true a.write refers a.m.now c.if-not-write.false);
       out_after =

@@ -1,11 +1,9 @@
-use mathlib.Core.Path.{sym, ap, ◌∙◌}
+use mathlib.Core.Path.{sym, ◌∙◌}
 use native.Mathlib.Omega.{arith}
 use Rattle.memory.specs.Bytes.{Small}
 use Rattle.parts.specs.Turn.{part_in}
-use Rattle.parts.specs.declared.turn.Part.{Part}
 use Rattle.table_laws.specs.DecoderChanges.{found}
 use Rattle.state_laws.proofs.EncoderForms.{forms-holds-encoder}
-use Rattle.encoder_fields.specs.Refer.{entered_one}
 use Rattle.encoder_references.proofs.Entering.{entered-static, entered-found, entering-ordered, entering-place}
 use Rattle.encoder_references.proofs.refer.enter.Goals as goal
 
@@ -21,32 +19,12 @@ find-f-requires c =
 pub returns-in_default : goal.returns-in_default
 returns-in_default c = entered-found _ _ _ _ c.if-index-lt-FIRST.false _ (sym c.find-f.ensures ∙ c.in_default.is)
 
-pub refer_nontrailer-requires : goal.refer_nontrailer-requires
-refer_nontrailer-requires c =
+pub refer-requires : goal.refer-requires
+refer-requires c =
     let small : Small c.args.m.now = λ k. grind arith in
     let p = c.requires in
-    let at : found c.args.m.now c.args.index.value c.in-At.place = sym c.find-f.ensures ∙ c.in-At.is in
+    let at : found c.args.m.now c.args.index.value c.in-Ok.place = sym c.find-f.ensures ∙ c.in-Ok.is in
     (entering-place _ small p.1 _ p.0 (part_in c.args.part) _ _ at, (forms-holds-encoder _ small p.1).long, p.0)
 
-pub refer_trailer-requires : goal.refer_trailer-requires
-refer_trailer-requires c =
-    let small : Small c.args.m.now = λ k. grind arith in
-    let p = c.requires in
-    let at : found c.args.m.now c.args.index.value c.in-At.place = sym c.find-f.ensures ∙ c.in-At.is in
-    (entering-place _ small p.1 _ p.0 (part_in c.args.part) _ _ at, (forms-holds-encoder _ small p.1).long, p.0)
-
-pub returns-in-Nontrailer : goal.returns-in-Nontrailer
-returns-in-Nontrailer c =
-    let at : found c.args.m.now c.args.index.value c.in-At.place = sym c.find-f.ensures ∙ c.in-At.is in
-    let a = c.args in
-    c.refer_nontrailer.ensures
-    ∙ entered-found _ _ _ _ c.if-index-lt-FIRST.false _ at
-    ∙ ap (λ (part : Part). entered_one a.m.now a.stream.value (part_in part) a.index.value) (sym c.in-Nontrailer.is)
-
-pub returns-in-Trailer : goal.returns-in-Trailer
-returns-in-Trailer c =
-    let at : found c.args.m.now c.args.index.value c.in-At.place = sym c.find-f.ensures ∙ c.in-At.is in
-    let a = c.args in
-    c.refer_trailer.ensures
-    ∙ entered-found _ _ _ _ c.if-index-lt-FIRST.false _ at
-    ∙ ap (λ (part : Part). entered_one a.m.now a.stream.value (part_in part) a.index.value) (sym c.in-Trailer.is)
+pub returns : goal.returns
+returns c = c.refer.ensures ∙ entered-found _ _ _ _ c.if-index-lt-FIRST.false _ (sym c.find-f.ensures ∙ c.in-Ok.is)

@@ -6,12 +6,12 @@ use Rattle.entry_places.proofs.place.locate.Goals as goal
 pub returns-then-index-le-LAST : goal.returns-then-index-le-LAST
 returns-then-index-le-LAST c = sym (locate-static _ _ c.requires.0 c.if-index-le-LAST.true)
 
-pub returns-in-At : goal.returns-in-At
-returns-in-At c =
+pub returns-in-Ok : goal.returns-in-Ok
+returns-in-Ok c =
     let above = c.if-index-le-LAST.false in
-    sym (locate-above _ _ above (sym c.find.ensures ∙ c.in-At.is))
+    sym (locate-above _ _ above (sym c.find.ensures ∙ c.in-Ok.is))
 
-pub returns-in-Vacant : goal.returns-in-Vacant
-returns-in-Vacant c =
+pub returns-in-Err : goal.returns-in-Err
+returns-in-Err c =
     let above = c.if-index-le-LAST.false in
-    sym (locate-above _ _ above (sym c.find.ensures ∙ c.in-Vacant.is))
+    sym (locate-above _ _ above (sym c.find.ensures ∙ c.in-Err.is))

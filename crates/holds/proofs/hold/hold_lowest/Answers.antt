@@ -11,12 +11,10 @@ named_lowest-trailer-requires c = trailer-list _ _ _ _ (omega arith) c.trailer_l
 
 pub returns-then-told : goal.returns-then-told
 returns-then-told c =
-    let found = c in
-    first-lower _ _ _ _ found.nontrailer_list.ensures found.trailer_list.ensures _ _ found.named_lowest-nontrailer.ensures found.named_lowest-trailer.ensures
+    first-lower _ _ _ _ c.nontrailer_list.ensures c.trailer_list.ensures _ _ c.named_lowest-nontrailer.ensures c.named_lowest-trailer.ensures
     (omega arith)
 
 pub returns : goal.returns
 returns c =
-    let found = c in
-    second-lower _ _ _ _ found.nontrailer_list.ensures found.trailer_list.ensures _ _ found.named_lowest-nontrailer.ensures found.named_lowest-trailer.ensures
+    second-lower _ _ _ _ c.nontrailer_list.ensures c.trailer_list.ensures _ _ c.named_lowest-nontrailer.ensures c.named_lowest-trailer.ensures
     (omega arith)

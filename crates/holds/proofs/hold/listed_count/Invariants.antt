@@ -7,7 +7,4 @@ use Rattle.holds.proofs.hold.listed_count.Given as goal
 
 -- `hold::listed_count` meets its contract. The loop's invariant: the count so far, and that of the streams that are left, make up that of all.
 abbrev pub invariant-loop-i : goal.invariant-loop-i
-invariant-loop-i l = (l.count + listed_count (is_set l.m l.marks) (streams_at (l.k - l.i) l.m (l.at + 2 * l.i)) ≡ listed_count (is_set l.m l.marks) (streams_at l.k l.m l.at)) × (l.count ≤ l.i) × (l.i ≤ l.k)
-
-abbrev pub decreases-loop-i : goal.decreases-loop-i
-decreases-loop-i l = l.k - l.i
+invariant-loop-i l = (l.count + listed_count (is_set l.m l.marks) (streams_at (l.k - l.i) l.m (l.at + 2 * l.i)) ≡ listed_count (is_set l.m l.marks) (streams_at l.k l.m l.at)) × (l.count ≤ l.i)

@@ -1,4 +1,4 @@
-use Prim.Native.Nat.{◌+◌, ◌*◌, ◌-◌, ◌≤◌}
+use Prim.Native.Nat.{◌+◌, ◌*◌, ◌-◌}
 use mathlib.Core.Path.{◌≡◌}
 use Rattle.marks.specs.Marks.{is_set}
 use Rattle.state.specs.DecoderState.{streams_at}
@@ -7,7 +7,4 @@ use Rattle.holds.proofs.hold.listed_lowest.Given as goal
 
 -- `hold::listed_lowest` meets its contract. The loop's invariant: the lowest of the streams that are left is that of all.
 abbrev pub invariant-loop-i : goal.invariant-loop-i
-invariant-loop-i l = (listed_lowest (is_set l.m l.marks) (streams_at (l.k - l.i) l.m (l.at + 2 * l.i)) ≡ listed_lowest (is_set l.m l.marks) (streams_at l.k l.m l.at)) × (l.i ≤ l.k)
-
-abbrev pub decreases-loop-i : goal.decreases-loop-i
-decreases-loop-i l = l.k - l.i
+invariant-loop-i l = listed_lowest (is_set l.m l.marks) (streams_at (l.k - l.i) l.m (l.at + 2 * l.i)) ≡ listed_lowest (is_set l.m l.marks) (streams_at l.k l.m l.at)

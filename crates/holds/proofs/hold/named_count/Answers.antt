@@ -17,9 +17,8 @@ listed_count-requires c = list-streams _ _ _ _ _ c.listed_count_at-count.ensures
 pub overflow_add-result : goal.overflow_add-result
 unfolding list_at
 overflow_add-result c =
-    let start = c in
-    let g = is_set start.args.m.now start.args.marks in
-    omega (arith, count-le g 0 c.horizon_at-horizon.result, start.requires.fine.0)
+    let g = is_set c.args.m.now c.args.marks in
+    omega (arith, count-le g 0 c.horizon_at-horizon.result, c.requires.fine.0)
 
 pub returns : goal.returns
 unfolding list_at

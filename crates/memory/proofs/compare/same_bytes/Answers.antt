@@ -4,17 +4,13 @@ use Rattle.memory.proofs.Sameness.{turns-none, turns-done, byte-equal, byte-othe
 use Rattle.memory.proofs.compare.same_bytes.Goals as goal
 
 pub loop-k-init : goal.loop-k-init
-loop-k-init c = (omega arith, turns-none _ _ _ _ _)
+loop-k-init c = turns-none _ _ _ _ _
 
 pub returns-then-a-i : goal.returns-then-a-i
-returns-then-a-i c =
-    let l = c in
-    sym (l.loop-k.invariant.1 ∙ byte-other _ _ _ _ _ _ l.loop-k-test.true c.if-a-i.true)
+returns-then-a-i c = sym (c.loop-k.invariant ∙ byte-other _ _ _ _ _ _ (omega arith) c.if-a-i.true)
 
 pub loop-k-preserved : goal.loop-k-preserved
-loop-k-preserved c =
-    let l = c in
-    (omega arith, l.loop-k.invariant.1 ∙ byte-equal _ _ _ _ _ _ l.loop-k-test.true c.if-a-i.false)
+loop-k-preserved c = c.loop-k.invariant ∙ byte-equal _ _ _ _ _ _ (omega arith) c.if-a-i.false
 
 pub returns : goal.returns
-returns c = sym (c.loop-k.invariant.1 ∙ turns-done _ _ _ _ _ _ c.loop-k-test.false)
+returns c = sym (c.loop-k.invariant ∙ turns-done _ _ _ _ _ _ (omega arith))

@@ -1,23 +1,18 @@
-use mathlib.Core.Path.{refl, sym, ◌∙◌}
+use Prim.Native.Nat.{ℕ, ◌+◌, ◌-◌}
+use mathlib.Core.Path.{◌≡◌, ap, ◌∙◌}
 use native.Mathlib.Omega.{arith}
-use lib.ListN.{length-set}
-use Rattle.memory.proofs.ZeroStores.{zeros-none, zeros-more, zeros-done}
+use lib.ListN.{length, replicate, length-replicate}
+use borrow.Rule.Slice.PartMut.{put_mid}
+use Rattle.memory.specs.Bytes.{part}
+use Rattle.memory.proofs.Overlay.{mid-overlay}
+use Rattle.memory.proofs.Places.{length_part}
 use Rattle.memory.proofs.copy.put_zeros.Goals as goal
-
-pub loop-i-init : goal.loop-i-init
-loop-i-init c = (omega arith, refl, zeros-none c.args.m.now c.args.at c.args.n)
-
-pub loop-i-preserved : goal.loop-i-preserved
-loop-i-preserved c =
-    let l = c.loop-i in
-    let a = c.args in
-    (omega arith, simp length-set l.invariant.1, l.invariant.2 ∙ zeros-more l.m a.at a.n l.i c.loop-i-test.true)
-
-pub shape_of-m : goal.shape_of-m
-shape_of-m c = c.loop-i.invariant.1
 
 pub returns : goal.returns
 returns c =
-    let l = c.loop-i in
     let a = c.args in
-    sym (l.invariant.2 ∙ zeros-done l.m a.at a.n l.i c.loop-i-test.false)
+    let d : length (part a.m.now a.at (a.at + a.n - a.at)) ≡ a.n =
+    ap (λ (k : ℕ). length (part a.m.now a.at k)) (omega arith) ∙ length_part a.m.now a.at a.n c.requires
+    in
+    ap (put_mid a.at (a.at + a.n - a.at) a.m.now) (c.fill.ensures.after (λ y e. e) ∙ ap (λ (k : ℕ). replicate k 0) d)
+    ∙ mid-overlay a.m.now (replicate a.n 0) a.at a.n c.requires (length-replicate a.n 0)

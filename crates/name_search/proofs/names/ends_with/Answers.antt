@@ -6,10 +6,5 @@ use Rattle.name_search.proofs.names.ends_with.Goals as goal
 pub returns-then-offset_at-lt-KEY : goal.returns-then-offset_at-lt-KEY
 returns-then-offset_at-lt-KEY c = sym (ends-short _ _ _ (omega (arith, c.offset_at.ensures, c.if-offset_at-lt-KEY.true)))
 
-pub last_four-requires : goal.last_four-requires
-last_four-requires c =
-    let p = c.requires in
-    (omega (arith, c.text_at.ensures.0), omega (arith, c.text_at.ensures.0, p.1.text _ p.0, p.1.long))
-
 pub returns : goal.returns
 returns c = ends-compared _ _ _ (omega (arith, c.offset_at.ensures, c.if-offset_at-lt-KEY.false)) c.text_at.ensures.0 c.last_four.ensures

@@ -1,5 +1,5 @@
 use Prim.Native.Nat.{ℕ}
-use mathlib.Core.Path.{◌≡◌, refl, sym, ap, ◌∙◌}
+use mathlib.Core.Path.{◌≡◌, sym, ap, ◌∙◌}
 use mathlib.Core.Bool.{false}
 use native.Mathlib.Omega.{arith}
 use Rattle.name_search.specs.Names.{ends_with, serves_both_at}
@@ -8,26 +8,8 @@ use Rattle.name_search.proofs.Serving.{not_named, other_length, other-end}
 use Rattle.name_search.proofs.names.find_long.Goals as goal
 use Rattle.name_search.proofs.names.find_long.Goals.{then-name_length_at-n+then-ends_with+else-has_both, then-name_length_at-n+else-ends_with, else-name_length_at-n}
 
-pub count_of-count-requires : goal.count_of-count-requires
-count_of-count-requires c = omega (arith, c.requires.2.long)
-
-pub last_four-key-requires : goal.last_four-key-requires
-last_four-key-requires c = let p = c.requires in (p.1, omega arith)
-
-pub loop-i-init : goal.loop-i-init
-loop-i-init c = (c.requires.0, refl)
-
-pub name_length_at-requires : goal.name_length_at-requires
-name_length_at-requires c = let o = c.requires.2 in (omega (arith, o.few), omega (arith, o.long))
-
-pub ends_with-requires : goal.ends_with-requires
-ends_with-requires c = (omega arith, c.requires.2)
-
-pub has_both-requires : goal.has_both-requires
-has_both-requires c = record { i_bound = (omega arith, c.requires.2); i_value = sym c.name_length_at.ensures.0 ∙ c.if-name_length_at-n.true }
-
 pub returns-then-has_both : goal.returns-then-has_both
-returns-then-has_both c = sym (c.loop-i.invariant.1 ∙ row_here _ _ _ (omega arith) (sym c.has_both.ensures ∙ c.if-has_both.true))
+returns-then-has_both c = sym (c.loop-i.invariant ∙ row_here _ _ _ (omega arith) (sym c.has_both.ensures ∙ c.if-has_both.true))
 
 pub loop-i-preserved : goal.loop-i-preserved
 loop-i-preserved c =
@@ -37,7 +19,7 @@ loop-i-preserved c =
       | then-name_length_at-n+else-ends_with w ↦ other-end _ o _ (omega arith) _ _ c.requires.1 (ap (λ (k : ℕ). ends_with c.args.m.now c.loop-i.i k) (sym c.last_four-key.ensures) ∙ sym w.ends_with.ensures ∙ w.if-ends_with.false)
       | else-name_length_at-n w ↦ not_named _ _ _ _ (other_length _ o _ (omega arith) _ (λ e. w.if-name_length_at-n.false (c.name_length_at.ensures.0 ∙ e)))
     ] in
-    (omega arith, c.loop-i.invariant.1 ∙ row_more _ _ _ (omega arith) passed)
+    c.loop-i.invariant ∙ row_more _ _ _ (omega arith) passed
 
 pub returns : goal.returns
-returns c = sym (c.loop-i.invariant.1 ∙ row_done _ _ _ (omega arith))
+returns c = sym (c.loop-i.invariant ∙ row_done _ _ _ (omega arith))

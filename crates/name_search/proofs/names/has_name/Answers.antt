@@ -1,6 +1,4 @@
 use mathlib.Core.Path.{sym, ◌∙◌}
-use native.Mathlib.Omega.{arith}
-use Rattle.table_search.proofs.Fields.{name-end}
 use Rattle.name_search.proofs.Serving.{under_deletion, name_compared}
 use Rattle.name_search.proofs.names.has_name.Goals as goal
 
@@ -8,9 +6,6 @@ pub returns-then-status_at-ne0 : goal.returns-then-status_at-ne0
 returns-then-status_at-ne0 c =
     let p = c.requires in
     sym (under_deletion _ p.i_bound.1 _ p.i_bound.0 _ (λ e. c.if-status_at-ne0.true (c.status_at.ensures ∙ e)))
-
-pub stands_at-requires : goal.stands_at-requires
-stands_at-requires c = let p = c.requires in omega (arith, name-end _ p.i_bound.1 _ p.i_bound.0, p.i_value, c.text_at.ensures.0)
 
 pub returns : goal.returns
 returns c =

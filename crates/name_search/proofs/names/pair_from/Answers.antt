@@ -9,18 +9,16 @@ returns-then-has_value c =
     let p = c.requires in
     pair-both _ _ _ _ p.m_value _ (row_here _ _ _ p.first_bound.0 (sym (both-by-value _ _ _ _ p.first_value.1 c.has_value.ensures) ∙ c.if-has_value.true))
 
-pub returns-in-Row : goal.returns-in-Row
-returns-in-Row c =
-    let w = c in
-    let p = w.requires in
+pub returns-in-Some : goal.returns-in-Some
+returns-in-Some c =
+    let p = c.requires in
     pair-both _ _ _ _ p.m_value _
-    (row_more _ _ _ p.first_bound.0 (sym (both-by-value _ _ _ _ p.first_value.1 w.has_value.ensures) ∙ w.if-has_value.false)
-    ∙ sym c.find_both.ensures ∙ c.in-Row.is)
+    (row_more _ _ _ p.first_bound.0 (sym (both-by-value _ _ _ _ p.first_value.1 c.has_value.ensures) ∙ c.if-has_value.false)
+    ∙ sym c.find_both.ensures ∙ c.in-Some.is)
 
-pub returns-in-Nothing : goal.returns-in-Nothing
-returns-in-Nothing c =
-    let w = c in
-    let p = w.requires in
+pub returns-in-None : goal.returns-in-None
+returns-in-None c =
+    let p = c.requires in
     pair-name _ _ _ _ p.m_value
-    (row_more _ _ _ p.first_bound.0 (sym (both-by-value _ _ _ _ p.first_value.1 w.has_value.ensures) ∙ w.if-has_value.false)
-    ∙ sym c.find_both.ensures ∙ c.in-Nothing.is)
+    (row_more _ _ _ p.first_bound.0 (sym (both-by-value _ _ _ _ p.first_value.1 c.has_value.ensures) ∙ c.if-has_value.false)
+    ∙ sym c.find_both.ensures ∙ c.in-None.is)

@@ -1,7 +1,6 @@
 use Prim.Native.Nat.{◌+◌, ◌-◌}
 use mathlib.Core.Path.{sym, ap, ◌∙◌}
 use native.Mathlib.Omega.{arith}
-use lib.ListN.{length-set}
 use Rattle.memory.specs.Bytes.{overlay}
 use Rattle.packing.proofs.Writing.{last-bytes, last-store, last_none}
 use Rattle.packing.proofs.pack.put_rest.Goals as goal
@@ -24,9 +23,6 @@ returns-then-n-le8 c =
     ∙ last-store _ a.at (a.at + 1) (a.n + 7) (a.n - 1) v (omega arith) (omega arith)
     ∙ last_none _ (a.at + 1) (a.n - 1) v (omega arith))
 
-pub bounds-out-at-2 : goal.bounds-out-at-2
-bounds-out-at-2 c = simp length-set (omega arith)
-
 pub returns-then-n-le16 : goal.returns-then-n-le16
 returns-then-n-le16 c =
     let a = c.args in
@@ -36,9 +32,6 @@ returns-then-n-le16 c =
     ∙ last-store _ a.at (a.at + 1) (a.n + 7) (a.n - 1) v (omega arith) (omega arith)
     ∙ last-store _ (a.at + 1) (a.at + 2) (a.n - 1) (a.n - 9) v (omega arith) (omega arith)
     ∙ last_none _ (a.at + 2) (a.n - 9) v (omega arith))
-
-pub bounds-out-at-3 : goal.bounds-out-at-3
-bounds-out-at-3 c = simp length-set (omega arith)
 
 pub returns-then-n-le24 : goal.returns-then-n-le24
 returns-then-n-le24 c =
@@ -50,9 +43,6 @@ returns-then-n-le24 c =
     ∙ last-store _ (a.at + 1) (a.at + 2) (a.n - 1) (a.n - 9) v (omega arith) (omega arith)
     ∙ last-store _ (a.at + 2) (a.at + 3) (a.n - 9) (a.n - 17) v (omega arith) (omega arith)
     ∙ last_none _ (a.at + 3) (a.n - 17) v (omega arith))
-
-pub bounds-out-at-4 : goal.bounds-out-at-4
-bounds-out-at-4 c = simp length-set (omega arith)
 
 pub returns : goal.returns
 returns c =

@@ -10,6 +10,5 @@ use Rattle.parts.proofs.close.close_both.Goals as goal
 pub returns : goal.returns
 unfolding closed_both
 returns c =
-    let first = c in
     let s = c.args.stream.value in
-    c.clear-2.ensures ∙ ap (λ (m : List ℕ). cleared m (marks_place trailer) s) first.clear.ensures
+    c.clear-2.ensures ∙ ap (λ (m : List ℕ). cleared m (marks_place trailer) s) c.clear.ensures

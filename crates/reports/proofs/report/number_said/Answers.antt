@@ -1,24 +1,18 @@
-use Rattle.reports.specs.Report.{number_text}
 use mathlib.Core.Path.{ap, ◌∙◌}
-use Rattle.reports.proofs.Telling.{values, moved, told-nothing, told-often, told-once}
+use Rattle.std.proofs.lemmas.Result.{err_from_is_err_and}
+use Rattle.fields.specs.Reading.{text_of}
+use Rattle.reports.specs.Report.{number_text}
+use Rattle.reports.proofs.Telling.{values, kept-err, kept-ok}
 use Rattle.reports.proofs.report.number_said.Goals as goal
 
-pub text_at-requires : goal.text_at-requires
-text_at-requires c = moved c.args.list.now c.in-Once.is c.look_up-s.ensures.said_inside
-
-pub returns-in-Nothing : goal.returns-in-Nothing
-returns-in-Nothing c =
+pub returns-in_err-place : goal.returns-in_err-place
+returns-in_err-place c =
     let a = c.args in
-    told-nothing a.list.now (values a.name.now a.list.now) c.look_up-s.result c.look_up-s.ensures.result_value number_text c.in-Nothing.is
+    let e = err_from_is_err_and c.from_residual.result c.from_residual.ensures.1 in
+    rw (e.1, e.2) (kept-err (values a.name.now a.list.now) number_text _ c.in_err-place.ensures.result_value)
 
-pub returns-in-More : goal.returns-in-More
-returns-in-More c =
+pub returns : goal.returns
+returns c =
     let a = c.args in
-    told-often a.list.now (values a.name.now a.list.now) c.look_up-s.result c.look_up-s.ensures.result_value number_text c.in-More.is
-
-pub returns-in-Once : goal.returns-in-Once
-returns-in-Once c =
-    let a = c.args in
-    let p = c.in-Once.place in
-    c.small_number.ensures ∙ (ap number_text c.text_at.ensures
-    ∙ told-once a.list.now (values a.name.now a.list.now) c.look_up-s.result c.look_up-s.ensures.result_value number_text p c.in-Once.is)
+    let v = text_of a.list.now c.in_ok-place.place in
+    c.small_number.ensures ∙ (ap number_text c.text_at.ensures ∙ kept-ok (values a.name.now a.list.now) number_text v c.in_ok-place.ensures.result_value)

@@ -23,21 +23,21 @@ pub returns-in_default : goal.returns-in_default
 unfolding values_of
 returns-in_default c =
     let l = c.loop-at in
-    record { result_value = sym (ap (times_in c.args.name.now) (l.invariant.3 ∙ fields-refused _ _ _ c.loop-at-test.true _ c.read_field-r.ensures l.invariant.0 (omega arith) _ c.in_default.is)); said_inside = tt }
+    record { result_value = sym (ap (times_in c.args.name.now) (l.invariant.3 ∙ fields-refused _ _ _ c.loop-at-test.true _ c.read_field.ensures l.invariant.0 (omega arith) _ c.in_default.is)); said_inside = tt }
 
 pub with_field-told-requires : goal.with_field-told-requires
-with_field-told-requires c = let g = field-good _ _ _ c.read_field-r.ensures _ _ c.in-Found.is in g.name-inside
+with_field-told-requires c = let g = field-good _ _ _ c.read_field.ensures _ _ c.in-Ok.is in g.name-inside
 
 pub loop-at-smaller : goal.loop-at-smaller
-loop-at-smaller c = let g = field-good _ _ _ c.read_field-r.ensures _ _ c.in-Found.is in omega arith
+loop-at-smaller c = let g = field-good _ _ _ c.read_field.ensures _ _ c.in-Ok.is in omega arith
 
 pub loop-at-preserved : goal.loop-at-preserved
 loop-at-preserved c =
     let l = c.loop-at in
     let a = c.args in
-    let e = c.read_field-r.ensures in
-    let found = c.in-Found.is in
-    let place = c.in-Found.place in
+    let e = c.read_field.ensures in
+    let found = c.in-Ok.is in
+    let place = c.in-Ok.place in
     let g = field-good _ _ _ e _ _ found in
     let field : Field = field_of a.list.now place in (
       l.invariant.0 - 1,

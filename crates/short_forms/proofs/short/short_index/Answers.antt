@@ -2,7 +2,7 @@ use mathlib.Core.Path.{refl, sym, ap, ◌∙◌}
 use Prim.Native.Nat.{ℕ, ◌+◌}
 use native.Mathlib.Omega.{arith}
 use Rattle.integers.specs.declared.number.TableIndex.{TableIndex}
-use Rattle.short_forms.specs.declared.short.ShortIndex.TheVariants.{Found}
+use Rattle.std.specs.Prelude.{Some}
 use Rattle.short_forms.proofs.ShortEquations.{index-zero, index-ones, index_short}
 use Rattle.short_forms.proofs.short.short_index.Goals as goal
 
@@ -20,5 +20,5 @@ returns c =
     let u = c in
     let e = u.wide-value.ensures.0 in
     let small = u.type_inv.s u.args.at in
-    ap (λ (index : TableIndex). Found index (u.args.at + 1)) (c.new.ensures ∙ ap (λ (v : ℕ). record { value = v }) e)
+    ap (λ (index : TableIndex). Some (index, u.args.at + 1)) (c.new.ensures ∙ ap (λ (v : ℕ). record { value = v }) e)
     ∙ sym (index_short _ _ _ refl (omega (arith, u.requires.1, e, c.if-value-eq0.false)) (omega (arith, e, small, c.if-value-eq-ONES7.false)))

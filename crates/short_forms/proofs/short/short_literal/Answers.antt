@@ -9,22 +9,23 @@ pub returns-then-left-lt-LITERAL_BYTES : goal.returns-then-left-lt-LITERAL_BYTES
 returns-then-left-lt-LITERAL_BYTES c = sym (literal-cut _ _ c.if-s-at-ne0.false c.if-left-lt-LITERAL_BYTES.true)
 
 pub returns-in_default : goal.returns-in_default
-returns-in_default c = sym (literal-name-long _ _ c.if-s-at-ne0.false c.if-left-lt-LITERAL_BYTES.false _ c.short_length-n.ensures c.in_default.is)
+returns-in_default c = sym (literal-name-long _ _ c.if-s-at-ne0.false c.if-left-lt-LITERAL_BYTES.false _ c.short_length.ensures c.in_default.is)
 
 pub returns-then-left-name : goal.returns-then-left-name
-returns-then-left-name c = sym (literal-name-cut _ _ c.if-s-at-ne0.false c.if-left-lt-LITERAL_BYTES.false _ c.short_length-n.ensures _ c.in-Of.is c.if-left-name.true)
+returns-then-left-name c =
+    sym (literal-name-cut _ _ c.if-s-at-ne0.false c.if-left-lt-LITERAL_BYTES.false _ c.short_length.ensures _ c.in-Some.is c.if-left-name.true)
 
-pub returns-in_default-v : goal.returns-in_default-v
-returns-in_default-v c =
-    sym (literal-value-long _ _ c.if-s-at-ne0.false c.if-left-lt-LITERAL_BYTES.false _ c.short_length-n.ensures _ c.in-Of.is c.if-left-name.false _ c.short_length-v.ensures
-    c.in_default-v.is)
+pub returns-in_default-short_length : goal.returns-in_default-short_length
+returns-in_default-short_length c =
+    sym (literal-value-long _ _ c.if-s-at-ne0.false c.if-left-lt-LITERAL_BYTES.false _ c.short_length.ensures _ c.in-Some.is c.if-left-name.false _
+    c.short_length-2.ensures c.in_default-short_length.is)
 
 pub returns-then-left-name-2 : goal.returns-then-left-name-2
 returns-then-left-name-2 c =
-    sym (literal-value-cut _ _ c.if-s-at-ne0.false c.if-left-lt-LITERAL_BYTES.false _ c.short_length-n.ensures _ c.in-Of.is c.if-left-name.false _ c.short_length-v.ensures _
-    c.in-Of-v.is c.if-left-name-2.true)
+    sym (literal-value-cut _ _ c.if-s-at-ne0.false c.if-left-lt-LITERAL_BYTES.false _ c.short_length.ensures _ c.in-Some.is c.if-left-name.false _
+    c.short_length-2.ensures _ c.in-Some-short_length.is c.if-left-name-2.true)
 
 pub returns : goal.returns
 returns c =
-    sym (literal-short _ _ c.if-s-at-ne0.false c.if-left-lt-LITERAL_BYTES.false _ c.short_length-n.ensures _ c.in-Of.is c.if-left-name.false _ c.short_length-v.ensures _
-    c.in-Of-v.is c.if-left-name-2.false)
+    sym (literal-short _ _ c.if-s-at-ne0.false c.if-left-lt-LITERAL_BYTES.false _ c.short_length.ensures _ c.in-Some.is c.if-left-name.false _
+    c.short_length-2.ensures _ c.in-Some-short_length.is c.if-left-name-2.false)

@@ -1,7 +1,7 @@
 use mathlib.Core.Path.{sym, ap, ◌∙◌}
 use Prim.Native.Nat.{◌+◌}
 use Rattle.wire.specs.declared.text.StringPlace.{StringPlace}
-use Rattle.short_strings.specs.declared.short.ShortString.TheVariants.{Found}
+use Rattle.std.specs.Prelude.{Some}
 use Rattle.short_strings.proofs.ShortStrings.{short-string-none, short-string-long, short-string-cut, short-string-found}
 use Rattle.short_strings.proofs.short.short_string.Goals as goal
 
@@ -19,5 +19,5 @@ pub returns : goal.returns
 returns c =
     let d = c in
     let a = d.args in
-    ap (λ (p : StringPlace). Found p (a.at + 1 + d.wide-length.result)) c.plain.ensures
+    ap (λ (p : StringPlace). Some (p, a.at + 1 + d.wide-length.result)) c.plain.ensures
     ∙ sym (short-string-found _ _ d.if-s-at.false _ d.wide-length.ensures.0 c.if-length-ge-ONES7.false c.if-left-size.false)

@@ -31,8 +31,7 @@ columns_ok-requires c =
 pub returns-then-not-columns_ok : goal.returns-then-not-columns_ok
 returns-then-not-columns_ok c =
     let headed : head_ok decoder_role decoder_length c.args.m.now ≡ true = sym c.head_ok.ensures ∙ c.if-not-head_ok.false in
-    let n = c in
-    sym (decoder-columns _ headed (omega arith) _ n.count_of-count.ensures
+    sym (decoder-columns _ headed (omega arith) _ c.count_of-count.ensures
     (sym c.columns_ok.ensures ∙ c.if-not-columns_ok.true))
 
 pub rows_form-requires : goal.rows_form-requires
@@ -45,8 +44,7 @@ pub returns-then-not-rows_form : goal.returns-then-not-rows_form
 returns-then-not-rows_form c =
     let headed : head_ok decoder_role decoder_length c.args.m.now ≡ true = sym c.head_ok.ensures ∙ c.if-not-head_ok.false in
     let ordered : let n = c in columns_ok n.args.m.now largest n.count_of-count.result ≡ true = sym c.columns_ok.ensures ∙ c.if-not-columns_ok.false in
-    let o = c in
-    let n = o in
+    let n = c in
     sym (decoder-rows _ headed (omega arith) _ n.count_of-count.ensures ordered
     _ c.rows_form.ensures c.if-not-rows_form.true)
 
@@ -59,8 +57,7 @@ pub returns : goal.returns
 returns c =
     let headed : head_ok decoder_role decoder_length c.args.m.now ≡ true = sym c.head_ok.ensures ∙ c.if-not-head_ok.false in
     let ordered : let n = c in columns_ok n.args.m.now largest n.count_of-count.result ≡ true = sym c.columns_ok.ensures ∙ c.if-not-columns_ok.false in
-    let o = c in
-    let n = o in
+    let n = c in
     c.deletes_ok.ensures
     ∙ sym (decoder-deletes _ headed (omega arith) _ n.count_of-count.ensures ordered
     _ c.rows_form.ensures c.if-not-rows_form.false)

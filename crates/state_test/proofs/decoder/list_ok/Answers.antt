@@ -7,27 +7,21 @@ returns-then-horizon-gt-MOST_HORIZON c = sym (list-horizon _ _ _ c.horizon_at-ho
 
 pub returns-then-count-gt-MOST_LISTED : goal.returns-then-count-gt-MOST_LISTED
 returns-then-count-gt-MOST_LISTED c =
-    let n = c in
-    sym (list_count _ _ _ n.horizon_at-horizon.ensures n.if-horizon-gt-MOST_HORIZON.false _ n.listed_count_at-count.ensures c.if-count-gt-MOST_LISTED.true)
+    sym (list_count _ _ _ c.horizon_at-horizon.ensures c.if-horizon-gt-MOST_HORIZON.false _ c.listed_count_at-count.ensures c.if-count-gt-MOST_LISTED.true)
 
 pub returns-then-count-eq0 : goal.returns-then-count-eq0
 returns-then-count-eq0 c =
-    let n = c in
     c.zeros.ensures
-    ∙ sym (list-empty _ _ _ n.horizon_at-horizon.ensures n.if-horizon-gt-MOST_HORIZON.false _ n.listed_count_at-count.ensures
+    ∙ sym (list-empty _ _ _ c.horizon_at-horizon.ensures c.if-horizon-gt-MOST_HORIZON.false _ c.listed_count_at-count.ensures
     _ c.listed_place-listed.ensures c.if-count-eq0.true)
 
 pub returns-then-not-streams_ok : goal.returns-then-not-streams_ok
 returns-then-not-streams_ok c =
-    let p = c in
-    let n = p in
-    sym (list-streams _ _ _ n.horizon_at-horizon.ensures n.if-horizon-gt-MOST_HORIZON.false _ n.listed_count_at-count.ensures
-    _ p.listed_place-listed.ensures p.if-count-gt-MOST_LISTED.false _ c.streams_ok.ensures c.if-not-streams_ok.true)
+    sym (list-streams _ _ _ c.horizon_at-horizon.ensures c.if-horizon-gt-MOST_HORIZON.false _ c.listed_count_at-count.ensures
+    _ c.listed_place-listed.ensures c.if-count-gt-MOST_LISTED.false _ c.streams_ok.ensures c.if-not-streams_ok.true)
 
 pub returns : goal.returns
 returns c =
-    let p = c in
-    let n = p in
     c.zeros-2.ensures
-    ∙ sym (list-zeros _ _ _ n.horizon_at-horizon.ensures n.if-horizon-gt-MOST_HORIZON.false _ n.listed_count_at-count.ensures
-    _ p.listed_place-listed.ensures p.if-count-gt-MOST_LISTED.false _ c.streams_ok.ensures c.if-not-streams_ok.false)
+    ∙ sym (list-zeros _ _ _ c.horizon_at-horizon.ensures c.if-horizon-gt-MOST_HORIZON.false _ c.listed_count_at-count.ensures
+    _ c.listed_place-listed.ensures c.if-count-gt-MOST_LISTED.false _ c.streams_ok.ensures c.if-not-streams_ok.false)

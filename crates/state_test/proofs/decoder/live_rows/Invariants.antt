@@ -1,4 +1,4 @@
-use Rattle.std.proofs.Common.{◌-◌, ◌&&◌, eqb}
+use Rattle.std.proofs.Common.{◌&&◌, eqb}
 use Rattle.state.specs.Layout.{status_at}
 use Rattle.state.specs.Forms.{text_ok}
 use Rattle.state_test.proofs.FormsTurns.{TextsSeen}
@@ -8,6 +8,3 @@ use Rattle.state_test.proofs.decoder.live_rows.Given as goal
 -- ends within the table's.
 abbrev pub invariant-loop-i : goal.invariant-loop-i
 invariant-loop-i l = TextsSeen (λ j. text_ok l.m j && eqb (status_at l.m j) 0) l.m l.count l.i l.ok
-
-abbrev pub decreases-loop-i : goal.decreases-loop-i
-decreases-loop-i l = l.count - l.i

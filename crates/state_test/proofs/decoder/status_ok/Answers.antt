@@ -7,11 +7,9 @@ returns-then-status-eq0 c = sym (status-none _ _ _ c.status_at-status.ensures c.
 
 pub returns-then-delete_count-status : goal.returns-then-delete_count-status
 returns-then-delete_count-status c =
-    let t = c in
-    sym (status-past _ _ _ t.status_at-status.ensures t.if-status-eq0.false (omega arith))
+    sym (status-past _ _ _ c.status_at-status.ensures c.if-status-eq0.false (omega arith))
 
 pub returns : goal.returns
 returns c =
-    let t = c in
     ap₂ eqb c.delete_index_at.ensures c.index_at.ensures
-    ∙ sym (status-points _ _ _ t.status_at-status.ensures t.if-status-eq0.false (omega arith))
+    ∙ sym (status-points _ _ _ c.status_at-status.ensures c.if-status-eq0.false (omega arith))

@@ -7,6 +7,3 @@ use Rattle.state_test.proofs.decoder.statuses_ok.Given as goal
 -- those counted and those left.
 abbrev pub invariant-loop-i : goal.invariant-loop-i
 invariant-loop-i l = EachSeen (status_ok l.m) l.count l.i true × (l.pointed ≤ l.i) × (pointing l.m l.count 0 ≡ l.pointed + pointing l.m (l.count - l.i) l.i)
-
-abbrev pub decreases-loop-i : goal.decreases-loop-i
-decreases-loop-i l = l.count - l.i

@@ -1,4 +1,3 @@
-use Rattle.std.proofs.Common.{◌-◌}
 use Rattle.state.specs.Forms.{text_ok}
 use Rattle.state_test.proofs.FormsTurns.{TextsSeen}
 use Rattle.state_test.proofs.decoder.texts.Given as goal
@@ -7,6 +6,3 @@ use Rattle.state_test.proofs.decoder.texts.Given as goal
 -- ends within the table's.
 abbrev pub invariant-loop-i : goal.invariant-loop-i
 invariant-loop-i l = TextsSeen (text_ok l.m) l.m l.count l.i l.ok
-
-abbrev pub decreases-loop-i : goal.decreases-loop-i
-decreases-loop-i l = l.count - l.i

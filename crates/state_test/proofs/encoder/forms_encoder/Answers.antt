@@ -30,8 +30,7 @@ columns_ok-requires c =
 pub returns-then-not-columns_ok : goal.returns-then-not-columns_ok
 returns-then-not-columns_ok c =
     let headed : head_ok encoder_role encoder_length c.args.m.now ≡ true = sym c.head_ok.ensures ∙ c.if-not-head_ok.false in
-    let n = c in
-    sym (encoder-columns _ headed (omega arith) _ n.count_of-count.ensures
+    sym (encoder-columns _ headed (omega arith) _ c.count_of-count.ensures
     (sym c.columns_ok.ensures ∙ c.if-not-columns_ok.true))
 
 pub rows_form-requires : goal.rows_form-requires
@@ -44,6 +43,5 @@ pub returns : goal.returns
 returns c =
     let headed : head_ok encoder_role encoder_length c.args.m.now ≡ true = sym c.head_ok.ensures ∙ c.if-not-head_ok.false in
     let ordered : let n = c in columns_ok n.args.m.now 189 n.count_of-count.result ≡ true = sym c.columns_ok.ensures ∙ c.if-not-columns_ok.false in
-    let o = c in
-    let n = o in
+    let n = c in
     c.rows_form.ensures ∙ sym (encoder-rows _ headed (omega arith) _ n.count_of-count.ensures ordered)

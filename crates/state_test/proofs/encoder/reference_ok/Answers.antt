@@ -5,7 +5,6 @@ use Rattle.state_test.proofs.encoder.reference_ok.Goals as goal
 
 pub returns : goal.returns
 returns c =
-    let first = c in
-    reference-asked _ _ _ _ _ first.status_at.ensures
-    (first.horizon_at.ensures ∙ ap (horizon_at _) first.nontrailer_place.ensures)
+    reference-asked _ _ _ _ _ c.status_at.ensures
+    (c.horizon_at.ensures ∙ ap (horizon_at _) c.nontrailer_place.ensures)
     (c.horizon_at-2.ensures ∙ ap (horizon_at _) c.trailer_place.ensures)

@@ -1,4 +1,4 @@
-use Rattle.std.proofs.Common.{◌-◌, ◌&&◌}
+use Rattle.std.proofs.Common.{◌&&◌}
 use Rattle.state.specs.Forms.{text_ok, reference_ok}
 use Rattle.state_test.proofs.FormsTurns.{TextsSeen}
 use Rattle.state_test.proofs.encoder.rows_form.Given as goal
@@ -7,6 +7,3 @@ use Rattle.state_test.proofs.encoder.rows_form.Given as goal
 -- ends within the table's.
 abbrev pub invariant-loop-i : goal.invariant-loop-i
 invariant-loop-i l = TextsSeen (λ j. text_ok l.m j && reference_ok l.m j) l.m l.count l.i l.ok
-
-abbrev pub decreases-loop-i : goal.decreases-loop-i
-decreases-loop-i l = l.count - l.i

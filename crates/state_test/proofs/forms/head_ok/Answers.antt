@@ -17,15 +17,12 @@ returns-then-limit_of-gt-MOST_HELD c = sym (head-limit _ _ _ (omega arith) c.if-
 
 pub returns-then-held_of-gt-MOST_HELD : goal.returns-then-held_of-gt-MOST_HELD
 returns-then-held_of-gt-MOST_HELD c =
-    let e = c in
-    sym (head-held _ _ _ (omega arith) e.if-m-role.false e.if-m-ne-FEBRUARY.false (omega arith) (omega arith))
+    sym (head-held _ _ _ (omega arith) c.if-m-role.false c.if-m-ne-FEBRUARY.false (omega arith) (omega arith))
 
 pub returns-then-count_of-gt-PLACES : goal.returns-then-count_of-gt-PLACES
 returns-then-count_of-gt-PLACES c =
-    let e = c in
-    sym (head-count _ _ _ (omega arith) e.if-m-role.false e.if-m-ne-FEBRUARY.false (omega arith) (omega arith) (omega arith))
+    sym (head-count _ _ _ (omega arith) c.if-m-role.false c.if-m-ne-FEBRUARY.false (omega arith) (omega arith) (omega arith))
 
 pub returns : goal.returns
 returns c =
-    let e = c in
-    c.zeros.ensures ∙ sym (head-zeros _ _ _ (omega arith) e.if-m-role.false e.if-m-ne-FEBRUARY.false (omega arith) (omega arith) (omega arith))
+    c.zeros.ensures ∙ sym (head-zeros _ _ _ (omega arith) c.if-m-role.false c.if-m-ne-FEBRUARY.false (omega arith) (omega arith) (omega arith))

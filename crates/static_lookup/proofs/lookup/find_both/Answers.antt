@@ -7,10 +7,10 @@ pub returns-then-not-may_be_value : goal.returns-then-not-may_be_value
 returns-then-not-may_be_value c = not_static _ _ (sym c.may_be_value.ensures ∙ c.if-not-may_be_value.true)
 
 pub find_value-requires : goal.find_value-requires
-find_value-requires c = name-first _ _ (sym c.in-At.ensures)
+find_value-requires c = name-first _ _ (sym c.in-Some.ensures)
 
-pub returns-in-At : goal.returns-in-At
-returns-in-At c = c.find_value.ensures ∙ name-both _ _ (sym c.in-At.ensures) _
+pub returns-in-Some : goal.returns-in-Some
+returns-in-Some c = c.find_value.ensures ∙ name-both _ _ (sym c.in-Some.ensures) _
 
-pub returns-in-Nothing : goal.returns-in-Nothing
-returns-in-Nothing c = sym (start-nothing _ _ (sym c.in-Nothing.ensures))
+pub returns-in-None : goal.returns-in-None
+returns-in-None c = sym (start-nothing _ _ (sym c.in-None.ensures))

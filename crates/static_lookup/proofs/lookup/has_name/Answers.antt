@@ -14,7 +14,7 @@ name_ends-requires c = let f = compared-fits _ _ c.requires in (f.0, f.1)
 pub returns-then-n-le-TWO_WORDS : goal.returns-then-n-le-TWO_WORDS
 unfolding has_name
 returns-then-n-le-TWO_WORDS c =
-    c.same_ends.ensures
+    c.eq.ensures
     ∙ ends-same _ _ (name-small c.args.index.value) (λ k. omega (arith, c.type_inv.name k)) (compared-fits _ _ c.requires).2 c.if-n-le-TWO_WORDS.true
     c.name_ends.ensures c.ends_of.ensures
 

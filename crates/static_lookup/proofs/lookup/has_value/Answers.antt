@@ -34,6 +34,6 @@ returns c =
     let stands = place-stands i refl (c.static_place-p.ensures ∙ ap place_of e) (lo, c.requires.le_value.1) in
     let l : length (static_value i) ≡ length c.args.value.now = stands.value_length ∙ c.if-n-value.false in
     let f : length c.args.value.now ≤ 16 = omega (arith, value-few i lo c.requires.le_value.1) in
-    c.same_ends.ensures
+    c.eq.ensures
     ∙ ends-same _ _ (value-small i) (λ k. omega (arith, c.type_inv.value k)) l f
     (c.value_ends.ensures ∙ ap (λ (k : ℕ). ends_of (static_value k)) e) c.ends_of.ensures

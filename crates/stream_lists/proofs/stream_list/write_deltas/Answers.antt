@@ -3,48 +3,42 @@ use Rattle.memory.specs.Bytes.{overlay}
 use Rattle.stream_lists.proofs.ListWriting.{deltas-none, fits_next, delta-length, delta-stored}
 use Rattle.stream_lists.proofs.stream_list.write_deltas.Goals as goal
 
-pub loop-i-init : goal.loop-i-init
-loop-i-init c = (omega arith, c.requires.fits, refl, refl, refl)
+pub loop-listed-init : goal.loop-listed-init
+loop-listed-init c = (c.requires.fits, refl, refl, refl)
 
 pub overflow_sub-stream : goal.overflow_sub-stream
 overflow_sub-stream c =
-    let l = c.loop-i in
-    omega (arith, fits_next c.args.streams.now l.i l.last c.loop-i-test.true l.invariant.1)
-
-pub new-delta-requires : goal.new-delta-requires
-new-delta-requires c =
-    let l = c.loop-i in
-    omega (arith, fits_next c.args.streams.now l.i l.last c.loop-i-test.true l.invariant.1)
+    let l = c.loop-listed in
+    omega (arith, fits_next c.args.streams.now l.listed-index l.last c.loop-listed-test.true l.invariant.0)
 
 pub write-next-requires : goal.write-next-requires
 write-next-requires c =
-    let l = c.loop-i in
+    let l = c.loop-listed in
     let xs = c.args.streams.now in
-    let f = fits_next xs l.i l.last c.loop-i-test.true l.invariant.1 in
-    let d = delta-length xs l.i l.last c.loop-i-test.true _ c.new-delta.ensures in
+    let f = fits_next xs l.listed-index l.last c.loop-listed-test.true l.invariant.0 in
+    let d = delta-length xs l.listed-index l.last c.loop-listed-test.true _ c.new-delta.ensures in
     record {
       width_bound = (omega arith, omega arith);
       value_le_largest = omega (arith, c.new-delta.ensures);
       value_in_bounds = omega (arith, c.requires.streams_in_bounds);
     }
 
-pub loop-i-preserved : goal.loop-i-preserved
-loop-i-preserved c =
+pub loop-listed-preserved : goal.loop-listed-preserved
+loop-listed-preserved c =
     let w = c.write-next in
     let n = c.new-delta.ensures in
-    let l = c.loop-i in
+    let l = c.loop-listed in
     let xs = c.args.streams.now in
-    let f = fits_next xs l.i l.last c.loop-i-test.true l.invariant.1 in
-    let d = delta-length xs l.i l.last c.loop-i-test.true _ n in (
-      omega arith,
+    let f = fits_next xs l.listed-index l.last c.loop-listed-test.true l.invariant.0 in
+    let d = delta-length xs l.listed-index l.last c.loop-listed-test.true _ n in (
       f.2,
       omega (arith, w.ensures.value),
-      l.invariant.3 ∙ delta-stored xs l.i l.last c.loop-i-test.true _ n l.out _ l.next _ w.ensures.value w.ensures.out_after,
+      l.invariant.2 ∙ delta-stored xs l.listed-index l.last c.loop-listed-test.true _ n l.out _ l.next _ w.ensures.value w.ensures.out_after,
       omega arith,
     )
 
 pub returns : goal.returns
 returns c =
-    let l = c.loop-i in
-    let e = deltas-none c.args.streams.now l.i l.last c.loop-i-test.false in
-    record { value = omega (arith, ap length e); out_after = sym (l.invariant.3 ∙ ap (overlay l.out l.next) e) }
+    let l = c.loop-listed in
+    let e = deltas-none c.args.streams.now l.listed-index l.last c.loop-listed-test.false in
+    record { value = omega (arith, ap length e); out_after = sym (l.invariant.2 ∙ ap (overlay l.out l.next) e) }

@@ -18,23 +18,6 @@ use Rattle.table_insert.proofs.insert.insert_like.Goals.{then-named-place, else-
 opening : (m : List ℕ) (place : ℕ) {n v name text : ℕ} → name ≡ n → text ≡ v → Opening m place n v → Opening m place name text
 opening m place {n = n} {text = text} en et o = subst (λ (k : ℕ). Opening m place k text) (sym en) (subst (Opening m place n) (sym et) o)
 
-pub open-at-requires : goal.open-at-requires
-open-at-requires c = opening _ _ c.name_length_at-name.ensures.0 c.length-text.ensures c.requires.opening
-
-pub move_up-requires : goal.move_up-requires
-move_up-requires c =
-    omega (arith, c.text_at-start.ensures.0, c.name_length_at-name.ensures.0, c.length-text.ensures, c.requires.named_here.before c.if-named-place.true, c.requires.opening, c.open-at.ensures.value)
-
-pub move_down-requires : goal.move_down-requires
-move_down-requires c =
-    omega (arith, c.text_at-start.ensures.0, c.name_length_at-name.ensures.0, c.length-text.ensures, c.requires.named_here.behind c.if-named-place.false, c.requires.opening, c.open-at.ensures.value)
-
-pub copy-requires : goal.copy-requires
-copy-requires c = record {
-  in_string = c.requires.in_string;
-  self_in_bounds = omega (arith, c.if-named-place.auto.m, c.requires.opening, c.open-at.ensures.value, c.length-text.ensures);
-}
-
 pub returns : goal.returns
 returns c =
     let a = c.args in

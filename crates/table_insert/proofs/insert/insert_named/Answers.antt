@@ -6,10 +6,7 @@ use Rattle.table_insert.proofs.insert.insert_named.Goals as goal
 
 pub returns : goal.returns
 returns c =
-    let name = c in
-    let o = name in
-    let start = o in
-    let a = start.args in
-    entry_in_lem a.m.now _ _ _ a.name.now (string_bytes a.s.now a.value) a.place a.index.value c.open-at.result name.copy-next.result
-    _ _ refl (o.length.ensures ∙ sym (string-size a.s.now a.value start.requires.in_string))
-    c.open-at.ensures.value c.open-at.ensures.m_after name.copy-next.ensures.out_after name.copy-next.ensures.value c.copy.ensures.out_after
+    let a = c.args in
+    entry_in_lem a.m.now _ _ _ a.name.now (string_bytes a.s.now a.value) a.place a.index.value c.open-at.result c.copy-next.result
+    _ _ refl (c.length.ensures ∙ sym (string-size a.s.now a.value c.requires.in_string))
+    c.open-at.ensures.value c.open-at.ensures.m_after c.copy-next.ensures.out_after c.copy-next.ensures.value c.copy.ensures.out_after

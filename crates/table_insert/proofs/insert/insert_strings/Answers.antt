@@ -6,15 +6,10 @@ use Rattle.table_insert.proofs.insert.insert_strings.Goals as goal
 
 pub returns : goal.returns
 returns c =
-    let name = c in
-    let o = name in
-    let value = o in
-    let first = value in
-    let start = first in
-    let a = start.args in
+    let a = c.args in
     let s = a.s.now in
-    entry_in_lem a.m.now _ _ _ (string_bytes s a.name) (string_bytes s a.value) a.place a.index.value c.open-at.result name.copy-next.result
-    first.length.result value.length-2.result (first.length.ensures ∙ sym (string-size s a.name start.requires.in_string.0))
-    (value.length-2.ensures ∙ sym (string-size s a.value start.requires.in_string.1))
-    c.open-at.ensures.value c.open-at.ensures.m_after name.copy-next.ensures.out_after (rw (← first.length.ensures) at name.copy-next.ensures.value)
+    entry_in_lem a.m.now _ _ _ (string_bytes s a.name) (string_bytes s a.value) a.place a.index.value c.open-at.result c.copy-next.result
+    c.length.result c.length-2.result (c.length.ensures ∙ sym (string-size s a.name c.requires.in_string.0))
+    (c.length-2.ensures ∙ sym (string-size s a.value c.requires.in_string.1))
+    c.open-at.ensures.value c.open-at.ensures.m_after c.copy-next.ensures.out_after (rw (← c.length.ensures) at c.copy-next.ensures.value)
     c.copy.ensures.out_after

@@ -5,8 +5,3 @@ use Rattle.table_search.proofs.find.find.Goals as goal
 
 pub returns-then-index_at-index : goal.returns-then-index_at-index
 returns-then-index_at-index c = sym (find_at _ c.requires.1 _ _ (omega (arith, c.if-count-first.false, c.count_of-count.ensures)) (sym c.index_at.ensures ∙ c.if-index_at-index.true))
-
-pub find_below-requires-2 : goal.find_below-requires-2
-find_below-requires-2 c =
-    let o = c.requires.1 in
-    (o, omega (arith, c.if-count-first.false, c.count_of-count.ensures), λ k. omega (arith, o.low _ k, c.if-index_at-index.false, c.index_at.ensures))

@@ -1,10 +1,6 @@
-use mathlib.Core.Path.{◌≡◌}
-use Prim.Native.Nat.{◌-◌, ◌≤◌}
-use lib.ListN.{length}
+use Rattle.std.proofs.Common.{◌≡◌, ◌<◌, ◌≤◌, length, IfSome}
 use Rattle.tokens.proofs.hex.unhex.Given as goal
 
-abbrev pub invariant-loop-i : goal.invariant-loop-i
-invariant-loop-i l = (length l.out ≡ length l.initial.out) × (l.n ≤ length l.out) × (l.high ≤ 16)
-
-abbrev pub decreases-loop-i : goal.decreases-loop-i
-decreases-loop-i l = length l.text - l.i
+-- The bytes that were put lie in `out`, and `high` is a digit.
+abbrev pub invariant-loop-c : goal.invariant-loop-c
+invariant-loop-c l = (length l.out ≡ length l.initial.out) × (l.n ≤ length l.out) × IfSome l.high (λ d. d < 16)

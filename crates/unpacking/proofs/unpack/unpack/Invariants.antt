@@ -1,14 +1,14 @@
-use Prim.Native.Nat.{ℕ, ◌+◌}
+use Prim.Native.Nat.{ℕ, ◌+◌, ◌-◌}
 use mathlib.Core.Path.{◌≡◌}
 use mathlib.Core.List.{List}
 use lib.ListN.{length}
-use Rattle.memory.specs.Bytes.{overlay}
-use Rattle.unpacking.proofs.Progress.{Progress, left}
+use Rattle.memory.specs.Bytes.{part, overlay}
+use Rattle.unpacking.specs.Waiting.{waiting}
+use Rattle.unpacking.proofs.Progress.{Progress}
 use Rattle.unpacking.proofs.unpack.unpack.Given as goal
 
--- `unpacking::unpack::unpack` writes the bytes of the definition. The invariant is the progress of unpacking, with the bytes that are done written.
-abbrev pub invariant-loop-b : goal.invariant-loop-b
-invariant-loop-b l = (done : List ℕ) × Progress l.s l.from l.to l.b done × (l.next ≡ l.at + length done) × (l.out ≡ overlay l.initial.out l.at done)
+abbrev pub invariant-loop-x : goal.invariant-loop-x
+invariant-loop-x l = (done : List ℕ) × Progress (part l.s l.from (l.to - l.from)) l.b done × (l.next ≡ l.at + length done) × (l.out ≡ overlay l.initial.out l.at done)
 
-abbrev pub decreases-loop-b : goal.decreases-loop-b
-decreases-loop-b l = left l.s l.to l.b
+abbrev pub decreases-loop-x : goal.decreases-loop-x
+decreases-loop-x l = length (waiting l.b)

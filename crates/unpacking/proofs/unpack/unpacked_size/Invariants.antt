@@ -1,13 +1,14 @@
-use Prim.Native.Nat.{ℕ}
+use Prim.Native.Nat.{ℕ, ◌-◌}
 use mathlib.Core.Path.{◌≡◌}
 use mathlib.Core.List.{List}
 use lib.ListN.{length}
-use Rattle.unpacking.proofs.Progress.{Progress, left}
+use Rattle.memory.specs.Bytes.{part}
+use Rattle.unpacking.specs.Waiting.{waiting}
+use Rattle.unpacking.proofs.Progress.{Progress}
 use Rattle.unpacking.proofs.unpack.unpacked_size.Given as goal
 
--- `unpacking::unpack::unpacked_size` counts the bytes of the definition. The invariant is the progress of unpacking, with the bytes that are done counted.
-abbrev pub invariant-loop-b : goal.invariant-loop-b
-invariant-loop-b l = (done : List ℕ) × Progress l.s l.from l.to l.b done × (l.count ≡ length done)
+abbrev pub invariant-loop-count : goal.invariant-loop-count
+invariant-loop-count l = (done : List ℕ) × Progress (part l.s l.from (l.to - l.from)) l.b done × (l.count ≡ length done)
 
-abbrev pub decreases-loop-b : goal.decreases-loop-b
-decreases-loop-b l = left l.s l.to l.b
+abbrev pub decreases-loop-count : goal.decreases-loop-count
+decreases-loop-count l = length (waiting l.b)

@@ -3,7 +3,7 @@ use native.Mathlib.Omega.{arith}
 use Rattle.blocks.proofs.Bounds.{representation-good}
 use Rattle.vectors.proofs.answers.representations.Goals as goal
 
-pub loop-at-smaller : goal.loop-at-smaller
-loop-at-smaller c =
-    let g = representation-good _ _ _ _ (sym c.read_representation-r.ensures ∙ c.in-Found.is) in
-    omega (arith, g.past)
+pub loop-place-smaller : goal.loop-place-smaller
+loop-place-smaller c =
+    let g = representation-good _ _ _ _ (sym c.read_representation.ensures ∙ c.in-Ok.is) in
+    omega (arith, g.past, g.inside)

@@ -1,8 +1,5 @@
-use mathlib.Core.Path.{sym, ap, ◌∙◌}
+use mathlib.Core.Path.{sym, ◌∙◌}
 use native.Mathlib.Omega.{arith}
-use Rattle.integers.specs.Integer.{int_answer}
-use Rattle.integers.specs.declared.integer.IntRead.{IntRead}
-use Rattle.wire.specs.declared.text.StringRead.TheVariants.{Refused}
 use Rattle.integers.proofs.Bounds.{int-good}
 use Rattle.wire.proofs.Strings.{string-short, string-refused, string-plain, string-packed}
 use Rattle.wire.proofs.text.read_string.Goals as goal
@@ -15,28 +12,26 @@ returns-then-s-at c = sym (string-short _ _ _ c.if-s-at.true)
 pub returns-in_default : goal.returns-in_default
 returns-in_default c =
     let d = c in
-    let told = c.in_default.is in
-    ap Refused (c.number.ensures ∙ ap (λ (r : IntRead). (int_answer r).number) told)
-    ∙ sym (string-refused _ _ _ d.if-s-at.false _ d.read-r.ensures _ told)
+    sym (string-refused _ _ _ d.if-s-at.false _ d.read-r.ensures _ c.unwrap_err.ensures)
 
 pub read_packed-requires : goal.read_packed-requires
 read_packed-requires c =
     let d = c in
-    (d.requires, (int-good 7 _ _ (omega arith) _ d.read-r.ensures _ _ c.in-Value.is).1)
+    (d.requires, (int-good 7 _ _ (omega arith) _ d.read-r.ensures _ _ c.in-Ok.is).1)
 
 pub returns-then-first-ge-H_BIT : goal.returns-then-first-ge-H_BIT
 returns-then-first-ge-H_BIT c =
     let d = c in
     c.read_packed.ensures
-    ∙ sym (string-packed _ _ _ d.if-s-at.false _ d.read-r.ensures _ _ c.in-Value.is c.if-first-ge-H_BIT.true)
+    ∙ sym (string-packed _ _ _ d.if-s-at.false _ d.read-r.ensures _ _ c.in-Ok.is c.if-first-ge-H_BIT.true)
 
 pub read_plain-requires : goal.read_plain-requires
 read_plain-requires c =
     let d = c in
-    (int-good 7 _ _ (omega arith) _ d.read-r.ensures _ _ c.in-Value.is).1
+    (int-good 7 _ _ (omega arith) _ d.read-r.ensures _ _ c.in-Ok.is).1
 
 pub returns : goal.returns
 returns c =
     let d = c in
     c.read_plain.ensures
-    ∙ sym (string-plain _ _ _ d.if-s-at.false _ d.read-r.ensures _ _ c.in-Value.is c.if-first-ge-H_BIT.false)
+    ∙ sym (string-plain _ _ _ d.if-s-at.false _ d.read-r.ensures _ _ c.in-Ok.is c.if-first-ge-H_BIT.false)

@@ -2,10 +2,10 @@ use mathlib.Core.Path.{sym, ap, ◌∙◌}
 use Prim.Native.Nat.{ℕ, ◌+◌, ◌%◌, ◌<◌}
 use native.Mathlib.Omega.{arith}
 use native.Mathlib.Nat.{mod-lt}
-use Rattle.integers.specs.declared.integer.ShortInt.TheVariants.{Value}
 use Rattle.integers.proofs.Short.{short-int-none, short-int-one, short-int-cut, short-int-long, short-int-two}
 use Rattle.integers.proofs.integer.WireInt.short.Goals as goal
 use Rattle.integers.proofs.integer.WireInt.short.Goals.{Else-group-ge-GROUP}
+use Rattle.std.specs.Prelude.{Some}
 
 -- `WireInt::short` gives what `short_int_at` says: one equation of it for each way through the function.
 first_small : (c : Else-group-ge-GROUP) → c.wide.result % c.power-full.result < 256
@@ -16,7 +16,7 @@ returns-then-s-at c = sym (short-int-none _ _ _ c.if-s-at.true)
 
 pub returns-then-first-full : goal.returns-then-first-full
 returns-then-first-full c =
-    ap (λ (v : ℕ). Value (record { value = v }) (c.args.at + 1)) c.new.ensures
+    ap (λ (v : ℕ). Some (record { value = v }, c.args.at + 1)) c.new.ensures
     ∙ sym (short-int-one _ _ _ c.if-s-at.false _ _ c.wide.ensures.0 c.power-full.ensures.0 c.if-first-full.true)
 
 pub returns-then-s-next : goal.returns-then-s-next
@@ -35,6 +35,6 @@ new-requires-2 c = omega (arith, first_small c, c.if-group-ge-GROUP.false)
 
 pub returns : goal.returns
 returns c =
-    ap (λ (v : ℕ). Value (record { value = v }) (c.args.at + 1 + 1)) c.new-2.ensures
+    ap (λ (v : ℕ). Some (record { value = v }, c.args.at + 1 + 1)) c.new-2.ensures
     ∙ sym (short-int-two _ _ _ c.if-s-at.false _ _ c.wide.ensures.0 c.power-full.ensures.0 c.if-first-full.false c.if-s-next.false _ c.wide-group.ensures.0
     c.if-group-ge-GROUP.false)

@@ -1,0 +1,2 @@
+-- The decoder's calls by which a host says that a part of a stream is over, and that a stream has ended.
+pub mod Closing

@@ -1,0 +1,8 @@
+use Rattle.std.proofs.Common.{arith}
+use Rattle.memory.proofs.Overlay.{overlay-append}
+use Rattle.instructions.specs.Instruction.{instruction_wire}
+use Rattle.instruction_writing.proofs.write.write_insert.Goals as goal
+
+pub returns-clause-out_after : goal.returns-clause-out_after
+unfolding instruction_wire
+returns-clause-out_after g c = grind (arith, overlay-append)

@@ -1,0 +1,8 @@
+use mathlib.Core.Path.{◌≡◌}
+use mathlib.Core.List.{◌++◌}
+use Rattle.std.proofs.Common.{map, take, drop}
+use Rattle.link_notes.specs.Parts.{none_written, with_written}
+use Rattle.link_notes.proofs.notes.Notes.begin_table.Given as goal
+
+abbrev pub invariant-loop-part : goal.invariant-loop-part
+invariant-loop-part l = l.part-items ≡ map (with_written l.half none_written) (take l.part-index l.initial.part-items) ++ drop l.part-index l.initial.part-items

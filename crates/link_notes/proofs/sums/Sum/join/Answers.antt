@@ -1,9 +1,0 @@
-use native.Mathlib.Omega.{arith}
-use borrow.Author.Tests.{eq-eqb, ne_eqb}
-use Rattle.link_notes.proofs.sums.Sum.join.Goals as goal
-
-pub returns-then-n-eq0 : goal.returns-then-n-eq0
-returns-then-n-eq0 c = (rw (eq-eqb _ 0 c.if-n-eq0.true), omega arith)
-
-pub returns : goal.returns
-returns c = (rw (ne_eqb _ 0 c.if-n-eq0.false), omega arith)

@@ -1,2 +1,0 @@
--- Laws of the doubts about a link's hours.
-pub mod Doubting

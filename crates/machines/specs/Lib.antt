@@ -1,2 +1,0 @@
--- Where machines are kept.
-pub mod Keep

@@ -1,9 +1,0 @@
-use Prim.Native.Nat.{◌^◌}
-use mathlib.Core.Path.{◌∙◌}
-use native.Mathlib.Nat.{one-mul}
-use native.Mathlib.Omega.{arith}
-use lib.Pow.{shl_exact}
-use Rattle.marks.proofs.mark.power.Goals as goal
-
-pub returns : goal.returns
-returns c = shl_exact 1 c.args.k 64 (omega arith) (omega arith) ∙ one-mul (2 ^ c.args.k)

@@ -1,0 +1,2 @@
+-- Which calls there are.
+pub mod Outputs

@@ -1,0 +1,2 @@
+-- What is shown of an answer.
+pub mod Answers

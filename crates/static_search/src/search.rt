@@ -1,8 +1,0 @@
-// What a search of the static table finds.
-use integers::number::TableIndex;
-
-#[derive(Drop)]
-pub enum StaticFound {
-    At(TableIndex),
-    Nothing,
-}
