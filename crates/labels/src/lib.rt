@@ -1,97 +1,57 @@
-// Words for what the programs tell: answers, calls, parts and faults. A table of words is a text with a line for each number from 0 on.
+// Words for what the programs tell: answers, and parts of streams.
 #![tactic(auto)]
 
-use recording::{Fault, Kind};
-use text_io::print::{Text, number, words};
+ghost use Rattle.std.specs.Prelude.{Some};
+ghost use Rattle.labels.specs.Words.{answer_text, part_text};
 
-// Line `k` of a table.
-pub fn entry(out: &mut [u8], t: Text, table: &[u8], k: usize) -> Text {
-    match table.split(|c| *c == b'\n').nth(k) {
-        Some(line) => words(out, t, line),
-        None => t,
-    }
-}
+use std::fmt;
 
-// Document 01's numbered table, shortened.
-pub fn answer_name(out: &mut [u8], t: Text, answer: u8) -> Text {
-    let table = b"done\n\
-        vacant index\n\
-        bytes end too early\n\
-        integer too large or too long\n\
-        H set\n\
-        index or instruction not allowed\n\
-        index held\n\
-        limit passed\n\
-        index vacant\n\
-        entry already under deletion\n\
-        entry not under deletion\n\
-        stream, part or turn not allowed\n\
-        lent output or memory too small\n\
-        string or block too long\n\
-        bad stream list\n\
-        all places held\n\
-        field list not in its form\n\
-        memory forms no state\n\
-        packed string not in its form\n\
-        integer not in its shortest form\n";
-    entry(out, t, table, answer as usize)
-}
+// An answer by its number; in words it is nothing where no answer has this number.
+#[derive(Clone, Copy)]
+pub struct Answer(pub u8);
 
-// What a call of each kind is about.
-pub fn kind_name(out: &mut [u8], t: Text, kind: Kind) -> Text {
-    words(out, t, kind_words(kind))
-}
+impl fmt::Display for Answer {
+    ghost output = { λ answer. Some (answer_text answer.0) };
 
-fn kind_words(kind: Kind) -> &'static [u8] {
-    match kind {
-        Kind::DecoderStart => b"decoder start",
-        Kind::DecoderRead => b"management",
-        Kind::DecoderBlock => b"block",
-        Kind::DecoderOver => b"end of message",
-        Kind::DecoderEnded => b"end of stream",
-        Kind::DecoderCollect => b"collect",
-        Kind::DecoderHold => b"hold enquiry",
-        Kind::EncoderStart => b"encoder start",
-        Kind::EncoderInsert => b"encoder insert",
-        Kind::EncoderDelete => b"encoder delete",
-        Kind::EncoderBlock => b"encoder block",
-        Kind::EncoderAcknowledge => b"acknowledgement",
+    fn fmt<W: fmt::Write>(&self, f: &mut fmt::Formatter<W>) -> fmt::Result {
+        match self.0 {
+            0 => f.write_str("done"),
+            1 => f.write_str("vacant index"),
+            2 => f.write_str("bytes end too early"),
+            3 => f.write_str("integer too large or too long"),
+            4 => f.write_str("H set"),
+            5 => f.write_str("index or instruction not allowed"),
+            6 => f.write_str("index held"),
+            7 => f.write_str("limit passed"),
+            8 => f.write_str("index vacant"),
+            9 => f.write_str("entry already under deletion"),
+            10 => f.write_str("entry not under deletion"),
+            11 => f.write_str("stream, part or turn not allowed"),
+            12 => f.write_str("lent output or memory too small"),
+            13 => f.write_str("string or block too long"),
+            14 => f.write_str("bad stream list"),
+            15 => f.write_str("all places held"),
+            16 => f.write_str("field list not in its form"),
+            17 => f.write_str("memory forms no state"),
+            18 => f.write_str("packed string not in its form"),
+            19 => f.write_str("integer not in its shortest form"),
+            _ => f.write_str(""),
+        }
     }
 }
 
 // A part of a stream by its number.
-pub fn part_name(out: &mut [u8], t: Text, part: u64) -> Text {
-    match part {
-        0 => words(out, t, b"message"),
-        1 => words(out, t, b"trailer"),
-        _ => {
-            let a = words(out, t, b"part ");
-            number(out, a, part)
+#[derive(Clone, Copy)]
+pub struct Part(pub u64);
+
+impl fmt::Display for Part {
+    ghost output = { λ part. Some (part_text part.0) };
+
+    fn fmt<W: fmt::Write>(&self, f: &mut fmt::Formatter<W>) -> fmt::Result {
+        match self.0 {
+            0 => f.write_str("message"),
+            1 => f.write_str("trailer"),
+            n => write!(f, "part {n}"),
         }
-    }
-}
-
-// That the line of this number is no call.
-pub fn not_a_call(out: &mut [u8], t: Text, line: u64) -> Text {
-    let a = words(out, t, b"line ");
-    let b = number(out, a, line);
-    words(out, b, b": not a call")
-}
-
-// Why a line is no call.
-pub fn fault_name(out: &mut [u8], t: Text, fault: Fault) -> Text {
-    words(out, t, fault_words(fault))
-}
-
-fn fault_words(fault: Fault) -> &'static [u8] {
-    match fault {
-        Fault::NoSuchCall => b"no such call",
-        Fault::NoNumber => b"a number is missing, or is none of 0 to 2^64 - 1",
-        Fault::NoBytes => {
-            b"bytes are missing, are no pairs of hexadecimal digits, or are more than 20,000"
-        }
-        Fault::BadRoom => b"the room is no number of 0 to 65,536",
-        Fault::MoreWords => b"more words than the call has",
-        Fault::TooLong => b"longer than 65,535 characters",
     }
 }

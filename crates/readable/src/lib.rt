@@ -1,79 +1,63 @@
-// A field list in readable form, `machine: L-17, hours: 4100, turns: 2`, and words with numbers in them.
+// A field list in readable form, `machine: L-17, hours: 4100, turns: 2`, and hours.
 #![tactic(auto)]
 
 ghost use Rattle.fields.specs.Reading.{InText};
 
-pub mod form;
+pub mod hours;
 
 use fields::read::{FieldPlace, read_field};
 use reports::report::text_at;
 use shown_bytes::shown::{Place, place_in, shown_byte};
-use text_io::print;
-use text_io::print::Text;
+use text_io::print::Printer;
 
-fn character(out: &mut [u8], t: Text, place: Place, c: u8) -> Text {
+fn character(out: &mut Printer, place: Place, c: u8) {
     let shown = shown_byte(place, c);
-    print::words(out, t, shown.as_bytes())
+    out.bytes(shown.as_bytes());
 }
 
 // Bytes as the name of a field is shown.
-pub fn name(out: &mut [u8], t: Text, s: &[u8]) -> Text {
-    let mut k = t;
+pub fn name(out: &mut Printer, s: &[u8]) {
     for c in s {
-        k = character(out, k, Place::Name, *c);
+        character(out, Place::Name, *c);
     }
-    k
 }
 
-fn value(out: &mut [u8], t: Text, s: &[u8]) -> Text {
-    let mut k = t;
+fn value(out: &mut Printer, s: &[u8]) {
     for (i, c) in s.iter().enumerate() {
-        k = character(out, k, place_in(i, s.len()), *c);
+        character(out, place_in(i, s.len()), *c);
     }
-    k
 }
 
-// A comma before every field but the first, which stands at the place 0.
-fn comma(out: &mut [u8], t: Text, at: usize) -> Text {
-    if at == 0 {
-        return t;
-    }
-    print::words(out, t, b", ")
-}
-
-fn field(out: &mut [u8], t: Text, list: &[u8], place: FieldPlace) -> Text
+fn field(out: &mut Printer, list: &[u8], place: FieldPlace)
     requires { InText list.now place.name × InText list.now place.value }
 {
-    let n = place.name;
-    let v = place.value;
-    let a = name(out, t, text_at(list, n));
-    let b = print::words(out, a, b": ");
-    let c = value(out, b, text_at(list, v));
+    name(out, text_at(list, place.name));
+    write!(out, ": ");
+    value(out, text_at(list, place.value));
     if place.flag == 1 {
-        return print::words(out, c, b" = never store");
+        write!(out, " = never store");
     }
-    c
 }
 
-fn each_field(out: &mut [u8], t: Text, list: &[u8]) -> Text {
-    let mut k = t;
+fn each_field(out: &mut Printer, list: &[u8]) {
     let mut at: usize = 0;
     // No step is counted, so `for` has none to take: where a field ends says its reader.
     while at < list.len() {
         let Ok((place, next)) = read_field(list, at) else {
-            return k;
+            return;
         };
-        k = comma(out, k, at);
-        k = field(out, k, list, place);
+        if 0 < at {
+            write!(out, ", ");
+        }
+        field(out, list, place);
         at = next;
     }
-    k
 }
 
 // The fields one after another.
-pub fn fields(out: &mut [u8], t: Text, list: &[u8]) -> Text {
+pub fn fields(out: &mut Printer, list: &[u8]) {
     if list.is_empty() {
-        return print::words(out, t, b"no fields");
+        write!(out, "no fields");
     }
-    each_field(out, t, list)
+    each_field(out, list);
 }

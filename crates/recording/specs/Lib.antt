@@ -1,2 +1,3 @@
--- Which calls there are.
+-- What the contracts of `recording` cite.
 pub mod Outputs
+pub mod Words

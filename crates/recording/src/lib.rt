@@ -4,6 +4,8 @@
 ghost use Rattle.std.specs.Prelude.{◌≡◌, ◌≤◌, length, IfOk};
 ghost use Rattle.recording.specs.Outputs.{has_output};
 
+mod words;
+
 use tokens::{Words, bytes, number};
 
 // How many bytes of output are lent where a line does not say it, and the most that it can say.

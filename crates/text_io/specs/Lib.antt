@@ -1,2 +1,3 @@
--- What the contracts of `text_io` cite.
+pub mod Incomplete
 pub mod Lines
+pub mod Print

@@ -1,6 +1,10 @@
 // That a run is not complete: the line at which it ended, and why.
-use crate::print::{Text, byte, number, words, write_out};
+ghost use Rattle.std.specs.Prelude.{Some};
+ghost use Rattle.text_io.specs.Incomplete.{why_text};
+
+use crate::print::Printer;
 use crate::stream::Stream;
+use std::fmt;
 
 #[derive(Clone, Copy, Debug, PartialEq, Eq)]
 pub enum Why {
@@ -9,21 +13,23 @@ pub enum Why {
     NotWritten,
 }
 
-// Writes to this stream that the run ended at this line, and answers whether that was written.
-pub fn incomplete(to: Stream, line: u64, why: Why) -> bool {
-    let mut out = io::buffer();
-    let a = words(&mut out, Text::new(to), b"INCOMPLETE at line ");
-    let b = number(&mut out, a, line);
-    let c = words(&mut out, b, b": ");
-    let d = reason(&mut out, c, why);
-    let e = byte(&mut out, d, b'\n');
-    write_out(&out, e)
+impl fmt::Display for Why {
+    ghost output = { λ why. Some (why_text why) };
+
+    fn fmt<W: fmt::Write>(&self, f: &mut fmt::Formatter<W>) -> fmt::Result {
+        match self {
+            Why::NotOpened => f.write_str("the input cannot be opened"),
+            Why::NotRead => f.write_str("the input cannot be read"),
+            Why::NotWritten => f.write_str("the output cannot be written"),
+        }
+    }
 }
 
-fn reason(out: &mut [u8], t: Text, why: Why) -> Text {
-    match why {
-        Why::NotOpened => words(out, t, b"the input cannot be opened"),
-        Why::NotRead => words(out, t, b"the input cannot be read"),
-        Why::NotWritten => words(out, t, b"the output cannot be written"),
-    }
+// Writes to this stream that the run ended at this line, and answers whether that was written.
+pub fn incomplete(to: Stream, line: u64, why: Why) -> bool {
+    let mut buffer = io::buffer();
+    let mut out = Printer::new(to, &mut buffer);
+    writeln!(out, "INCOMPLETE at line {line}: {why}");
+    out.flush();
+    !out.is_lost()
 }

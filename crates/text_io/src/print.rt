@@ -1,102 +1,176 @@
-// Text for a stream, gathered in a lent buffer and written when that is full. A count of used bytes above the buffer's length counts as a full
-// buffer.
+// Text for a stream, gathered in a lent buffer and written when that is full.
+ghost use Rattle.std.specs.Prelude.{◌≡◌, ◌≤◌, ◌<◌, false, length};
+ghost use Rattle.std.specs.Fmt.{digit_glyph};
+
 use crate::stream::Stream;
+use std::fmt;
+use std::fmt::{Display, Write};
 use tokens::hex::BASE;
 
-// How many decimal digits a number of 64 bits has at most.
-const MOST_DIGITS: usize = 20;
-
-// How many bytes of the lent buffer are in use, whether a write has failed so far, and where the text goes. Each function answers all three as
-// they are then.
-#[derive(Clone, Copy)]
-pub struct Text {
-    pub used: usize,
-    pub lost: bool,
-    pub to: Stream,
+// The first `used` bytes of the buffer are gathered and not written yet. `lost` says whether a write has failed so far; what is printed then is
+// gathered as before.
+#[derive(Drop)]
+pub struct Printer<'a> {
+    buffer: &'a mut [u8],
+    used: usize,
+    lost: bool,
+    to: Stream,
+    ghost inside: { used ≤ length buffer.now },
 }
 
-impl Text {
-    // No text yet.
-    pub fn new(to: Stream) -> Text {
-        Text {
+impl<'a> Printer<'a> {
+    ghost use Rattle.std.specs.Prelude.{◌+◌, ◌++◌, true, [], ◌∷◌, IfSome, if◌then◌else◌, nat_lt};
+    ghost use Rattle.text_io.specs.Print.{held, room, Prints, hex};
+
+    // Nothing is gathered yet.
+    pub fn new(to: Stream, buffer: &'a mut [u8]) -> Printer<'a>
+        ensures { (room result ≡ length buffer.old) × (held result ≡ []) × (result.lost ≡ false) }
+    {
+        Printer {
+            buffer,
             used: 0,
             lost: false,
             to,
         }
     }
 
-    // Nothing of it is in use, and a write has failed.
-    pub fn lost(to: Stream) -> Text {
-        Text {
-            used: 0,
-            lost: true,
-            to,
+    // Has a write failed so far?
+    pub fn is_lost(&self) -> bool
+        ensures { result ≡ self.now.lost }
+    {
+        self.lost
+    }
+
+    // Writes what is gathered.
+    pub fn flush(&mut self)
+        ensures room { room self.new ≡ room self.old }
+        ensures held { held self.new ≡ [] }
+        ensures lost { self.old.lost ≡ true → self.new.lost ≡ true }
+    {
+        if !self.to.write(&self.buffer[..self.used]) {
+            self.lost = true;
+        }
+        self.used = 0;
+    }
+
+    // Room for a byte, unless the buffer has none.
+    fn make_room(&mut self)
+        ensures room { room self.new ≡ room self.old }
+        ensures held { held self.new ≡ (if nat_lt (length (held self.old)) (room self.old) then held self.old else []) }
+        ensures lost { self.old.lost ≡ true → self.new.lost ≡ true }
+    {
+        if self.used == self.buffer.len() {
+            self.flush();
         }
     }
-}
 
-pub fn byte(out: &mut [u8], t: Text, c: u8) -> Text {
-    let n = t.used;
-    if n < out.len() {
-        out[n] = c;
-        return Text { used: n + 1, ..t };
+    // One byte that there is room for.
+    fn push(&mut self, c: u8)
+        requires { self.old.used < room self.old }
+        ensures room { room self.new ≡ room self.old }
+        ensures held { held self.new ≡ held self.old ++ (c ∷ []) }
+        ensures lost { self.new.lost ≡ self.old.lost }
+    {
+        self.buffer[self.used] = c;
+        self.used += 1;
     }
-    let emptied = flush(out, t);
-    if out.len() == 0 {
-        return Text::lost(t.to);
+
+    // Bytes that there is room for.
+    fn push_all(&mut self, s: &[u8])
+        requires { self.old.used + length s.now ≤ room self.old }
+        ensures room { room self.new ≡ room self.old }
+        ensures held { held self.new ≡ held self.old ++ s.now }
+        ensures lost { self.new.lost ≡ self.old.lost }
+    {
+        let end = self.used + s.len();
+        self.buffer[self.used..end].copy_from_slice(s);
+        self.used = end;
     }
-    out[0] = c;
-    Text { used: 1, ..emptied }
-}
 
-pub fn words(out: &mut [u8], t: Text, s: &[u8]) -> Text {
-    let mut k = t;
-    for c in s {
-        k = byte(out, k, *c);
+    // One byte. A buffer of none gathers none: it is lost.
+    pub fn byte(&mut self, c: u8)
+        ensures { Prints self.old (c ∷ []) self.new }
+    {
+        self.make_room();
+        if self.used < self.buffer.len() {
+            self.push(c);
+        } else {
+            self.lost = true;
+        }
     }
-    k
-}
 
-// A number in decimal digits.
-pub fn number(out: &mut [u8], t: Text, v: u64) -> Text {
-    let mut digits = [0u8; MOST_DIGITS];
-    let k = io::decimal(v, &mut digits);
-    words(out, t, &digits[..k])
-}
+    pub fn bytes(&mut self, s: &[u8])
+        ensures { Prints self.old s.now self.new }
+    {
+        if s.len() <= self.buffer.len() - self.used {
+            self.push_all(s);
+            return;
+        }
+        for c in s {
+            self.byte(*c);
+        }
+    }
 
-// A digit below 16, and `f` for a larger number.
-fn digit(d: u8) -> u8 {
-    match d {
-        0..=9 => b'0' + d,
-        10..=14 => b'a' + (d - 10),
-        _ => b'f',
+    // A byte as two hexadecimal digits.
+    fn pair(&mut self, c: u8)
+        ensures { Prints self.old (hex (c ∷ [])) self.new }
+    {
+        self.byte(digit(c / BASE));
+        self.byte(digit(c % BASE));
+    }
+
+    // Bytes as hexadecimal digits.
+    pub fn hex(&mut self, s: &[u8])
+        ensures { Prints self.old (hex s.now) self.new }
+    {
+        for c in s {
+            self.pair(*c);
+        }
+    }
+
+    // What `write!` and `writeln!` call. Text that says of itself that it cannot be printed counts as lost.
+    pub fn write_fmt<D: Display + Drop>(&mut self, text: D)
+        ensures { self.new.lost ≡ false → IfSome (D.output text) (λ s. Prints self.old s self.new) }
+    {
+        match Write::write_fmt(self, text) {
+            Ok(()) => {}
+            Err(_) => self.lost = true,
+        }
+    }
+
+    // The end of a line, which is written. Nothing is written behind a line that was lost.
+    pub fn end_line(&mut self)
+        ensures room { room self.new ≡ room self.old }
+        ensures held { held self.new ≡ [] }
+        ensures lost { self.old.lost ≡ true → self.new.lost ≡ true }
+    {
+        if self.lost {
+            self.used = 0;
+            return;
+        }
+        self.byte(b'\n');
+        self.flush();
     }
 }
 
-// A byte as two hexadecimal digits.
-pub fn pair(out: &mut [u8], t: Text, c: u8) -> Text {
-    let k = byte(out, t, digit(c / BASE));
-    byte(out, k, digit(c % BASE))
-}
+impl Write for Printer<'_> {
+    ghost use Rattle.text_io.specs.Print.{Prints};
 
-// Bytes as hexadecimal digits.
-pub fn bytes(out: &mut [u8], t: Text, s: &[u8]) -> Text {
-    let mut k = t;
-    for c in s {
-        k = pair(out, k, *c);
+    ghost write_str_gives = { Prints };
+
+    fn write_str(&mut self, s: &str) -> fmt::Result {
+        self.bytes(s.as_bytes());
+        Ok(())
     }
-    k
 }
 
-// Writes what is gathered, and answers whether all of it was written.
-pub fn write_out(out: &[u8], t: Text) -> bool {
-    t.to.write(out.get(..t.used).unwrap_or(out))
-}
-
-// Writes what is gathered; nothing of the buffer is in use then.
-pub fn flush(out: &[u8], t: Text) -> Text {
-    if write_out(out, t) {
-        return Text { used: 0, ..t };
+// A digit below 16.
+fn digit(d: u8) -> u8
+    requires { d < 16 }
+    ensures { result ≡ digit_glyph false d }
+{
+    if d < 10 {
+        return b'0' + d;
     }
-    Text::lost(t.to)
+    b'a' + (d - 10)
 }

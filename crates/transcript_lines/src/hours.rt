@@ -1,116 +1,112 @@
 // What a line says of the hours of a block, and the lines behind it.
 use falling_hours::falls::{Fall, StreamHours};
 use falling_hours::standing::Standing;
-use readable::form::{end_line, filled};
+use readable::hours::Hours;
+use readable::name;
 use reports::report::{Named, Why};
-use text_io::print::{Text, words};
+use text_io::print::Printer;
 
 // ` = HOURS hours`
-pub fn told(out: &mut [u8], t: Text, tenths: u32) -> Text {
-    filled(out, t, b" = ~ hours\n", [u64::from(tenths), 0, 0, 0])
+pub fn told(out: &mut Printer, tenths: u32) {
+    write!(out, " = {} hours", Hours(tenths));
+    out.end_line();
 }
 
-fn named_words(named: Named) -> &'static [u8] {
+fn field_name(named: Named) -> &'static str {
     match named {
-        Named::Machine => b"machine",
-        Named::Hours => b"hours",
-        Named::Turns => b"turns",
+        Named::Machine => "machine",
+        Named::Hours => "hours",
+        Named::Turns => "turns",
     }
 }
 
 // How a field fails.
-fn failing(named: Named, why: Why) -> &'static [u8] {
+fn failing(named: Named, why: Why) -> &'static str {
     match why {
-        Why::Missing => b" missing",
-        Why::MoreThanOnce => b" more than once",
+        Why::Missing => "missing",
+        Why::MoreThanOnce => "more than once",
         Why::OutOfRange => match named {
-            Named::Machine => b" not 1 to 15 printable characters",
-            Named::Hours | Named::Turns => b" not a number of 0 to 65535",
+            Named::Machine => "not 1 to 15 printable characters",
+            Named::Hours | Named::Turns => "not a number of 0 to 65535",
         },
     }
 }
 
 // That hours are unclear, the field by which they are, and how.
-fn unclear(out: &mut [u8], t: Text, named: Named, how: &[u8]) -> Text {
-    let a = words(out, t, b" = hours unclear: ");
-    let b = words(out, a, named_words(named));
-    let c = words(out, b, how);
-    end_line(out, c)
+fn unclear(out: &mut Printer, named: Named, how: &str) {
+    write!(out, " = hours unclear: {} {how}", field_name(named));
+    out.end_line();
 }
 
 // The block is no report.
-pub fn no_report(out: &mut [u8], t: Text, named: Named, why: Why) -> Text {
-    unclear(out, t, named, failing(named, why))
+pub fn no_report(out: &mut Printer, named: Named, why: Why) {
+    unclear(out, named, failing(named, why));
 }
 
-pub fn in_trailer(out: &mut [u8], t: Text, named: Named) -> Text {
-    unclear(out, t, named, b" in a trailer")
+pub fn in_trailer(out: &mut Printer, named: Named) {
+    unclear(out, named, "in a trailer");
 }
 
 // `line LINE: machine MACHINE`
-fn of_machine(out: &mut [u8], t: Text, line: u64, machine: &[u8]) -> Text {
-    let a = filled(out, t, b"line #: machine ", [line, 0, 0, 0]);
-    readable::name(out, a, machine)
+fn of_machine(out: &mut Printer, line: u64, machine: &[u8]) {
+    write!(out, "line {line}: machine ");
+    name(out, machine);
 }
 
-pub fn not_kept(out: &mut [u8], t: Text, line: u64, machine: &[u8]) -> Text {
-    let a = of_machine(out, t, line, machine);
-    filled(out, a, b": not kept\n", [0, 0, 0, 0])
+pub fn not_kept(out: &mut Printer, line: u64, machine: &[u8]) {
+    of_machine(out, line, machine);
+    write!(out, ": not kept");
+    out.end_line();
 }
 
 // Two reports of one table, the higher stream first.
-fn two(out: &mut [u8], t: Text, higher: StreamHours, lower: StreamHours) -> Text {
-    let numbers = [
-        u64::from(higher.tenths),
-        higher.stream,
-        u64::from(lower.tenths),
-        lower.stream,
-    ];
-    filled(
+fn two(out: &mut Printer, higher: StreamHours, lower: StreamHours) {
+    write!(
         out,
-        t,
-        b": hours fall: ~ on stream #, ~ on stream #\n",
-        numbers,
-    )
+        "{} on stream {}, {} on stream {}",
+        Hours(higher.tenths),
+        higher.stream,
+        Hours(lower.tenths),
+        lower.stream
+    );
 }
 
 // What the hours of the message on this stream fall against.
-fn against(out: &mut [u8], t: Text, report: StreamHours, fall: Fall) -> Text {
+fn against(out: &mut Printer, report: StreamHours, fall: Fall) {
     match fall {
         Fall::BeforeStart(most) => {
-            let numbers = [u64::from(report.tenths), report.stream, u64::from(most), 0];
-            filled(
+            write!(
                 out,
-                t,
-                b": hours fall: ~ on stream #, ~ before the start\n",
-                numbers,
-            )
+                "{} on stream {}, {} before the start",
+                Hours(report.tenths),
+                report.stream,
+                Hours(most)
+            );
         }
-        Fall::Below(lower) => two(out, t, report, lower),
-        Fall::Above(higher) => two(out, t, higher, report),
+        Fall::Below(lower) => two(out, report, lower),
+        Fall::Above(higher) => two(out, higher, report),
     }
 }
 
 // The line of hours that fall.
-pub fn falls(
-    out: &mut [u8],
-    t: Text,
-    line: u64,
-    machine: &[u8],
-    report: StreamHours,
-    fall: Fall,
-) -> Text {
-    let a = of_machine(out, t, line, machine);
-    against(out, a, report, fall)
+pub fn falls(out: &mut Printer, line: u64, machine: &[u8], report: StreamHours, fall: Fall) {
+    of_machine(out, line, machine);
+    write!(out, ": hours fall: ");
+    against(out, report, fall);
+    out.end_line();
 }
 
 // Where a machine stands, at the end. Where a later report may be missing, these are the fewest hours that it can have.
-pub fn standing(out: &mut [u8], t: Text, machine: &[u8], s: Standing, may_miss: bool) -> Text {
-    let a = filled(out, t, b"machine ", [0, 0, 0, 0]);
-    let b = readable::name(out, a, machine);
-    let numbers = [u64::from(s.latest.tenths), s.table, s.latest.stream, 0];
-    if may_miss {
-        return filled(out, b, b": ~ hours or more, table #, stream #\n", numbers);
-    }
-    filled(out, b, b": ~ hours, table #, stream #\n", numbers)
+pub fn standing(out: &mut Printer, machine: &[u8], s: Standing, may_miss: bool) {
+    write!(out, "machine ");
+    name(out, machine);
+    write!(
+        out,
+        ": {} hours{}, table {}, stream {}",
+        Hours(s.latest.tenths),
+        if may_miss { " or more" } else { "" },
+        s.table,
+        s.latest.stream
+    );
+    out.end_line();
 }

@@ -1,11 +1,11 @@
 // A transcript that is not complete.
 use text_io::incomplete::{Why, incomplete};
-use text_io::print::Text;
+use text_io::print::Printer;
 use text_io::stream::Stream;
 
 // Was the end of the transcript written?
-pub fn ended(rt: &HostRuntime, t: Text, number: u64) -> bool {
-    if t.lost {
+pub fn ended(rt: &HostRuntime, out: &Printer, number: u64) -> bool {
+    if out.is_lost() {
         return break_off(rt, number, Why::NotWritten, false);
     }
     true

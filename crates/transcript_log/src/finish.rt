@@ -2,40 +2,63 @@
 use crate::log::Log;
 use crate::tally::Tally;
 use crate::waiting::still_waiting;
-use labels::entry;
-use link_notes::notes::Notes;
-use machines::keep::Machines;
-use readable::form::{end_line, filled};
-use text_io::print;
-use text_io::print::Text;
+use machines::keep::MACHINES;
+use text_io::print::Printer;
 use transcript_lines::hours::standing;
 
-// The machines that are kept, in the order of their first report.
-fn each_machine(out: &mut [u8], t: Text, machines: &Machines, may_miss: bool) -> Text {
-    let mut a = t;
-    for machine in machines.kept.iter().flatten() {
-        a = standing(out, a, machine.name.text(), machine.standing, may_miss);
+// The machines that are kept, in the order of their first report. They are told by their places, since the printer lies beside them.
+fn each_machine(log: &mut Log, may_miss: bool) {
+    for i in 0..MACHINES {
+        if let Some(machine) = log.machines.kept[i] {
+            standing(
+                &mut log.out,
+                machine.name.text(),
+                machine.standing,
+                may_miss,
+            );
+        }
     }
-    a
 }
 
 // The last line.
-fn complete(out: &mut [u8], t: Text, lines: u64, tally: Tally) -> Text {
-    let table =
-        b" calls, \n bad lines; blocks: \n done, \n refused, \n told to wait, \n still waiting; other calls: \n refused, \n cut short, \n with bytes left over; hours: \n unclear, \n falls, \n not kept\n";
-    let mut c = filled(out, t, b"complete: # lines, ", [lines, 0, 0, 0]);
-    for (k, n) in tally.counts.iter().enumerate() {
-        c = print::number(out, c, *n);
-        c = entry(out, c, table, k);
-    }
-    end_line(out, c)
+fn complete(out: &mut Printer, lines: u64, tally: Tally) {
+    let [
+        calls,
+        bad,
+        done,
+        refused,
+        told,
+        waiting,
+        others,
+        cut,
+        left,
+        unclear,
+        falls,
+        not_kept,
+    ] = tally.counts;
+    write!(
+        out,
+        "complete: {lines} lines, {calls} calls, {bad} bad lines; "
+    );
+    write!(
+        out,
+        "blocks: {done} done, {refused} refused, {told} told to wait, {waiting} still waiting; "
+    );
+    write!(
+        out,
+        "other calls: {others} refused, {cut} cut short, {left} with bytes left over; "
+    );
+    write!(
+        out,
+        "hours: {unclear} unclear, {falls} falls, {not_kept} not kept"
+    );
+    out.end_line();
 }
 
-// The transcript of so many lines ends.
-pub fn finish(out: &mut [u8], log: Log, lines: u64, notes: &Notes, machines: &Machines) -> Text {
-    let told = still_waiting(out, log, None, notes);
-    let t = told.text;
-    let tally = told.tally;
-    let a = each_machine(out, t, machines, tally.may_miss_reports());
-    complete(out, a, lines, tally)
+// The transcript of so many lines ends: its text.
+pub fn finish(log: &mut Log, lines: u64) {
+    still_waiting(log, None);
+    let tally = log.tally;
+    each_machine(log, tally.may_miss_reports());
+    complete(&mut log.out, lines, tally);
 }

@@ -1,5 +1,6 @@
 // How many of each kind there were.
-ghost use Rattle.std.specs.Prelude.{◌≤◌};
+ghost use Rattle.std.specs.Prelude.{◌≡◌, ◌≤◌};
+ghost use Rattle.transcript_log.specs.Tally.{place_of, more};
 
 // How many kinds are counted.
 pub const COUNTS: usize = 12;
@@ -29,7 +30,8 @@ pub struct Tally {
 }
 
 fn place(count: Count) -> usize
-    ensures { result ≤ 11 }
+    ensures value { result ≡ place_of count }
+    ensures bound { result ≤ 11 }
 {
     count as usize
 }
@@ -42,10 +44,11 @@ impl Tally {
     }
 
     // This many more.
-    pub fn with(mut self, count: Count, n: u64) -> Tally {
+    pub fn add(&mut self, count: Count, n: u64)
+        ensures { self.new.counts ≡ more self.old.counts (place_of count) n }
+    {
         let k = place(count);
         self.counts[k] = self.counts[k].saturating_add(n);
-        self
     }
 
     fn has(self, count: Count) -> bool {

@@ -1,0 +1,2 @@
+-- What the contracts of `labels` cite.
+pub mod Words

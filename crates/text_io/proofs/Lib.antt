@@ -1,0 +1,2 @@
+-- What the proofs of `text_io` share.
+pub mod Printing

@@ -1,0 +1,7 @@
+use Rattle.std.proofs.Common.{take}
+use Rattle.text_io.specs.Print.{Prints}
+use Rattle.text_io.proofs.print.Printer.bytes.Given as goal
+
+-- What was printed so far is the front of the bytes.
+abbrev pub invariant-loop-c : goal.invariant-loop-c
+invariant-loop-c l = Prints l.initial.self (take l.c-index l.s) l.self

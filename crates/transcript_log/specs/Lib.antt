@@ -1,0 +1,2 @@
+-- What the contracts of `transcript_log` cite.
+pub mod Tally
