@@ -10,3 +10,4 @@ pub mod RepresentationKept
 pub mod MeaningLaws
 pub mod MeaningHeld
 pub mod Vectors
+pub mod Numbers

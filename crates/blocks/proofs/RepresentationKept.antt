@@ -7,7 +7,7 @@ use mathlib.Core.List.{List, ◌++◌}
 use lib.ListN.{length, get_or}
 use lib.Dec.{ltb}
 use Rattle.integers.specs.Integer.{read_int}
-use Rattle.integers.proofs.Kept.{Kept, kept_same, kept-need, kept-pick, kept-inside, kept-on-int, kept-on-read, answer_number, byte-kept, int-kept}
+use Rattle.integers.proofs.Kept.{Kept, kept_same, kept-need, kept-pick, kept-inside, kept-on-int, kept-on-read, byte-kept, int-kept}
 use Rattle.wire.specs.Text.{read_string}
 use Rattle.wire.specs.Name.{read_name}
 use Rattle.wire.proofs.TextKept.{string-kept, name-kept}
@@ -16,6 +16,7 @@ use Rattle.blocks.specs.declared.read.RepresentationPlace.{RepresentationPlace}
 use Rattle.blocks.specs.declared.read.RepresentationPlace.TheVariants.{Indexed, Literal}
 use Rattle.blocks.proofs.Bounds.{representation-good, representation-of-kept}
 use Rattle.std.specs.Prelude.{Ok, Err}
+use Rattle.integers.specs.Answers.{answer_number}
 use Rattle.integers.specs.declared.answer.Refusal.TheVariants.{NotAllowed, Truncated}
 
 module _ (s t : List ℕ) (at : ℕ) where

@@ -92,7 +92,7 @@ module _ (m : List ℕ) (stream part : ℕ) (s out : List ℕ) where
     unfolding block_call
     out_of_turn e = need-true _ _ _ forms ∙ need-false _ _ _ e
 
-    not-read : part_turn (decoder_of m).finished stream (part_of part) ≡ true → (why : Refusal) → read_block s ≡ BlockRead.refused why
+    pub not-read : part_turn (decoder_of m).finished stream (part_of part) ≡ true → (why : Refusal) → read_block s ≡ BlockRead.refused why
         → block_call m stream part s out ≡ refused m out (number_of why)
     unfolding block_call
     not-read t why e = simp (forms, t, e)

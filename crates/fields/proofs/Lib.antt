@@ -11,3 +11,4 @@ pub mod Forth
 pub mod Lists
 pub mod Walk
 pub mod Examples
+pub mod Numbers

@@ -9,7 +9,7 @@ use Rattle.memory.proofs.Order.{split}
 use Rattle.memory.proofs.Places.{has_all}
 use Rattle.memory.specs.Bytes.{Has}
 use Rattle.integers.proofs.Refusals.{only_truncated}
-use Rattle.integers.proofs.Kept.{Kept, answer_number}
+use Rattle.integers.proofs.Kept.{Kept}
 use Rattle.instructions.specs.Instruction.{Instruction, acknowledge, FineIndex, FineInstruction, instruction_wire, Manages}
 use Rattle.instructions.specs.Reading.{instruction_answer, read_for_decoder, read_for_encoder}
 use Rattle.instructions.specs.declared.read.InstructionPlace.{InstructionPlace}
@@ -17,7 +17,7 @@ use Rattle.instructions.proofs.Bounds.{decoder-good, encoder-good}
 use Rattle.instructions.proofs.Back.{decoder-back, encoder-back}
 use Rattle.instructions.proofs.Kept.{decoder-kept, encoder-kept}
 use Rattle.std.specs.Prelude.{Ok, Err}
-use Rattle.integers.specs.Answers.{Read, number_of}
+use Rattle.integers.specs.Answers.{Read, answer_number, number_of}
 use Rattle.integers.specs.declared.answer.Refusal.TheVariants.{Truncated}
 
 -- r is answered of n bytes, and q of more, whose first `taken` bytes are an instruction

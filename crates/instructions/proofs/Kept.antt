@@ -11,7 +11,7 @@ use Rattle.wire.specs.Text.{read_string, value_limit}
 use Rattle.wire.specs.Name.{read_name}
 use Rattle.stream_lists.specs.StreamList.{list_of, read_list, InList}
 use Rattle.stream_lists.specs.declared.stream_list.ListPlace.{ListPlace}
-use Rattle.integers.proofs.Kept.{Kept, answer_number, kept_same, kept-need, kept-pick, kept-inside, kept-on-read, kept-on-int, byte-kept, int-kept}
+use Rattle.integers.proofs.Kept.{Kept, kept_same, kept-need, kept-pick, kept-inside, kept-on-read, kept-on-int, byte-kept, int-kept}
 use Rattle.wire.proofs.TextBounds.{string-bytes-kept, name-of-kept}
 use Rattle.wire.proofs.TextKept.{string-kept, name-kept}
 use Rattle.stream_lists.proofs.ListKept.{list-kept, streams-kept}
@@ -21,6 +21,7 @@ use Rattle.instructions.specs.declared.read.InstructionPlace.{InstructionPlace}
 use Rattle.instructions.specs.declared.read.InstructionPlace.TheVariants.{Insert, Delete, Acknowledge}
 use Rattle.instructions.proofs.Bounds.{decoder-good}
 use Rattle.std.specs.Prelude.{Ok, Err}
+use Rattle.integers.specs.Answers.{answer_number}
 use Rattle.integers.specs.declared.answer.Refusal.TheVariants.{NotAllowed, Truncated}
 
 module _ (s t : List ℕ) where

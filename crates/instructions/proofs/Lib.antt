@@ -7,3 +7,4 @@ pub mod Cut
 pub mod Lengths
 pub mod Vectors
 pub mod Told
+pub mod Numbers

@@ -10,8 +10,8 @@ use lib.Dec.{ltb}
 use borrow.Author.Tests.{lt-ltb, ltb-true}
 use Rattle.memory.specs.Choice.{pick, need}
 use Rattle.integers.specs.Integer.{on_int, value, read_int, groups, finished}
-use Rattle.std.specs.Prelude.{Result, Ok, Err}
-use Rattle.integers.specs.Answers.{Read, on_read, number_of}
+use Rattle.std.specs.Prelude.{Ok, Err}
+use Rattle.integers.specs.Answers.{Read, answer_number, on_read, number_of}
 use Rattle.integers.specs.declared.answer.Refusal.{Refusal}
 use Rattle.integers.specs.declared.answer.Refusal.TheVariants.{TooLarge, Truncated}
 use Rattle.integers.specs.declared.integer.WireInt.{WireInt}
@@ -20,11 +20,6 @@ use Rattle.integers.proofs.Refusals.{only_truncated}
 -- x is answered of some bytes, and y of the same with others behind; `number` gives the answer's number
 pub record Kept {X : Type 0} (number : X → ℕ) (x y : X) : Type 0 where
   pub same : (number x ≡ 2 → ⊥) → y ≡ x
-
--- the number of what a reader answers: 0 where it found something
-abbrev pub answer_number : {Y : Type 0} → Result Y Refusal → ℕ
-answer_number (Ok y) = 0
-answer_number (Err why) = number_of why
 
 pub byte-kept : (s t : List ℕ) (at : ℕ) → at < length s → get_or (s ++ t) at 0 ≡ get_or s at 0
 byte-kept s t at h = get_or-append s t 0 at h

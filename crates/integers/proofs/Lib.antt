@@ -8,5 +8,6 @@ pub mod Padding
 pub mod Refusals
 pub mod Short
 pub mod Kept
+pub mod Numbers
 pub mod Vectors
 pub mod Told

@@ -118,6 +118,11 @@ checked_number (Err why) = number_of why
 abbrev pub Read : Type 0 → Type 0
 Read X = Result (X × ℕ) Refusal
 
+-- its number: 0 where something was found, or the refusal's
+abbrev pub answer_number : {Y : Type 0} → Result Y Refusal → ℕ
+answer_number (Ok y) = 0
+answer_number (Err why) = number_of why
+
 -- what is told of it: two numbers, or the refusal's number alone
 abbrev pub read_answer : {X : Type 0} → (X → ℕ → Answer) → Read X → Answer
 read_answer told (Ok found) = told found.0 found.1

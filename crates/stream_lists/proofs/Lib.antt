@@ -6,3 +6,4 @@ pub mod ListBack
 pub mod ListKept
 pub mod ListVectors
 pub mod Told
+pub mod Numbers

@@ -9,11 +9,11 @@ use lib.Dec.{leb}
 use Rattle.integers.specs.Integer.{read_int}
 use Rattle.stream_lists.specs.StreamList.{on_deltas, read_delta, read_deltas, streams_from, list_of, read_list}
 use Rattle.stream_lists.specs.declared.stream_list.ListPlace.{ListPlace}
-use Rattle.integers.proofs.Kept.{Kept, answer_number, kept_same, kept-need, kept-on-read, kept-on-int, passed_on, int-kept}
+use Rattle.integers.proofs.Kept.{Kept, kept_same, kept-need, kept-on-read, kept-on-int, passed_on, int-kept}
 use Rattle.stream_lists.proofs.ListLaws.{deltas-refused, deltas-more, streams-end, streams-more}
 use Rattle.stream_lists.proofs.ListBounds.{list-good}
 use Rattle.std.specs.Prelude.{Result, Ok, Err}
-use Rattle.integers.specs.Answers.{Read}
+use Rattle.integers.specs.Answers.{Read, answer_number}
 use Rattle.integers.specs.declared.answer.Refusal.{Refusal}
 use Rattle.integers.specs.declared.answer.Refusal.TheVariants.{BadStreamList, Truncated}
 use Rattle.integers.specs.declared.number.StreamNumber.{StreamNumber}

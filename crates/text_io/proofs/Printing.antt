@@ -1,10 +1,12 @@
 -- What is gathered behind some bytes, and what is printed one after another.
-use Rattle.std.proofs.Common.{◌≡◌, ℕ, ◌+◌, ◌≤◌, ◌<◌, List, [], ◌∷◌, ◌++◌, length, take, refl, ap, sym, ◌∙◌, subst, append_assoc, length-append, Option, None, Some, IfSome, if◌then◌else◌, nat_lt, get_or}
+use Rattle.std.proofs.Common.{◌≡◌, ℕ, ◌+◌, ◌*◌, ◌≤◌, ◌<◌, List, [], ◌∷◌, ◌++◌, length, take, refl, ap, sym, ◌∙◌, subst, append_assoc, length-append, Option, None, Some, IfSome, if◌then◌else◌, nat_lt, get_or}
 use mathlib.Core.List.{append-nil}
 use native.Mathlib.Omega.{arith}
 use Rattle.std.specs.List.{FoldsTo, concat}
 use Rattle.std.specs.Fmt.{WritesInCalls, WritesText}
-use Rattle.std.proofs.lemmas.List.{length-take-le, take_all, take_more}
+use Rattle.std.proofs.lemmas.List.{length-take-le, take_all, take_more, take_more_set}
+use Rattle.std.proofs.lemmas.Grind.{take-set_at}
+use Rattle.std.proofs.Math.ListN.{set, length-set}
 use mathlib.Core.Logic.{⊎_elim}
 use Rattle.std.proofs.lemmas.Bool.{cond_below, cond_above, cases_lt}
 use Rattle.text_io.specs.declared.print.Printer.{Printer}
@@ -45,6 +47,24 @@ prints-text p q (Some s) w = prints-writes p s q w
 pub hex-append : (a b : List ℕ) → hex (a ++ b) ≡ hex a ++ hex b
 hex-append [] b = refl
 hex-append (c ∷ a) b = ap (λ (l : List ℕ). hex (c ∷ []) ++ l) (hex-append a b)
+
+pub hex-length : (s : List ℕ) → length (hex s) ≡ 2 * length s
+hex-length [] = refl
+hex-length (c ∷ s) = omega (arith, hex-length s)
+
+-- two bytes more behind those that are gathered
+pub two-more : (b : List ℕ) (e x y : ℕ) → e + 2 ≤ length b → take (e + 2) (set (set b e x) (e + 1) y) ≡ take e b ++ (x ∷ y ∷ [])
+two-more b e x y inside =
+    let long : length (set b e x) ≡ length b = length-set b e x in
+    take-set_at (set b e x) (e + 1) (e + 2) y (omega arith) (omega (arith, long))
+    ∙ ap (λ (l : List ℕ). l ++ (y ∷ [])) (take_more_set b e x (omega arith))
+    ∙ append_assoc (take e b) (x ∷ []) (y ∷ [])
+
+-- one byte's digits more behind those of the bytes before it
+pub digits-more : (h s : List ℕ) (i : ℕ) → i < length s → (h ++ hex (take i s)) ++ hex (get_or s i 0 ∷ []) ≡ h ++ hex (take (i + 1) s)
+digits-more h s i inside =
+    append_assoc h (hex (take i s)) (hex (get_or s i 0 ∷ []))
+    ∙ ap (λ (l : List ℕ). h ++ l) (sym (ap hex (take_more s i 0 inside) ∙ hex-append (take i s) (get_or s i 0 ∷ [])))
 
 -- each byte that is gathered lies in the buffer
 pub held-length : (p : Printer) → length (held p) ≡ p.used

@@ -19,7 +19,7 @@ pub struct Printer<'a> {
 }
 
 impl<'a> Printer<'a> {
-    ghost use Rattle.std.specs.Prelude.{◌+◌, ◌++◌, true, [], ◌∷◌, IfSome, if◌then◌else◌, nat_lt};
+    ghost use Rattle.std.specs.Prelude.{◌+◌, ◌*◌, ◌++◌, true, [], ◌∷◌, IfSome, if◌then◌else◌, nat_lt};
     ghost use Rattle.text_io.specs.Print.{held, room, Prints, hex};
 
     // Nothing is gathered yet.
@@ -87,6 +87,23 @@ impl<'a> Printer<'a> {
         self.used = end;
     }
 
+    // Digits that there is room for. They are counted in a local: a write to the buffer could be one to the printer's own count, for all the compiler knows.
+    fn push_hex(&mut self, s: &[u8])
+        requires { self.old.used + 2 * length s.now ≤ room self.old }
+        ensures room { room self.new ≡ room self.old }
+        ensures held { held self.new ≡ held self.old ++ hex s.now }
+        ensures lost { self.new.lost ≡ self.old.lost }
+    {
+        let mut end = self.used;
+        let out = &mut *self.buffer;
+        for c in s {
+            out[end] = digit(c / BASE);
+            out[end + 1] = digit(c % BASE);
+            end += 2;
+        }
+        self.used = end;
+    }
+
     // One byte. A buffer of none gathers none: it is lost.
     pub fn byte(&mut self, c: u8)
         ensures { Prints self.old (c ∷ []) self.new }
@@ -123,7 +140,9 @@ impl<'a> Printer<'a> {
     pub fn hex(&mut self, s: &[u8])
         ensures { Prints self.old (hex s.now) self.new }
     {
-        for c in s {
+        let n = s.len().min((self.buffer.len() - self.used) / 2);
+        self.push_hex(&s[..n]);
+        for c in &s[n..] {
             self.pair(*c);
         }
     }

@@ -34,7 +34,7 @@ pub fn unhex(text: &[u8], from: usize, out: &mut [u8]) -> usize
 {
     let mut n = 0;
     let mut high = None;
-    for c in text.iter().skip(from) {
+    for c in &text[from.min(text.len())..] {
         let Some(low) = digit(*c) else {
             continue;
         };

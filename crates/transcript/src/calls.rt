@@ -81,7 +81,7 @@ fn other(log: &mut Log, line: u64, call: Call, r: Reply) {
 fn started(log: &mut Log, line: u64, side: Side) {
     match side {
         Side::Decoder => {
-            still_waiting(log, Some(line));
+            still_waiting(log, (line != 0).then_some(line));
             log.notes.forget_waiting();
             log.machines.begin_table();
             let table = log.ends.decoder.table;

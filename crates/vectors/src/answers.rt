@@ -4,10 +4,10 @@ ghost use Rattle.std.specs.Prelude.{ℕ, ◌≤◌};
 use blocks::read::{RepresentationPlace, check_block, read_representation};
 use fields::read::check_list;
 use instructions::read::{InstructionPlace, read_for_decoder, read_for_encoder};
-use integers::answer::Read;
+use integers::answer::{self, Read};
 use integers::byte::wide;
 use integers::integer::WireInt;
-use show::{because, bytes, judged, list, name, next, number, string, words};
+use show::{because, bytes, judged, list, name, next, number, refusal, string, words};
 use stream_lists::stream_list::read_list;
 use wire::text::{NAME_LIMIT, VALUE_LIMIT, read_string};
 
@@ -43,7 +43,7 @@ fn width_of(digit: u8) -> u32
 fn integer(width: u8, s: &[u8]) {
     let r = WireInt::read(s, 0, width_of(width));
     let Ok((n, after)) = r else {
-        because(r.unwrap_err());
+        refusal(answer::number(&r));
         return;
     };
     number(b"value ", n.value as u64);
@@ -80,7 +80,7 @@ fn string_read(s: &[u8], limit: usize)
 {
     let r = read_string(s, 0, limit);
     let Ok((place, after)) = r else {
-        because(r.unwrap_err());
+        refusal(answer::number(&r));
         return;
     };
     string(b"string ", s, place);

@@ -5,3 +5,4 @@ pub mod TextBack
 pub mod TextKept
 pub mod TextVectors
 pub mod Told
+pub mod Numbers

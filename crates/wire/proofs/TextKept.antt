@@ -14,8 +14,9 @@ use Rattle.wire.specs.Text.{text_at, size_limit, is_packed, read_string, string_
 use Rattle.wire.specs.Name.{read_name}
 use Rattle.wire.specs.declared.name.NamePlace.TheVariants.{Index, Text}
 use Rattle.wire.proofs.TextBounds.{text-kept}
-use Rattle.integers.proofs.Kept.{Kept, kept_same, kept-need, kept-pick, kept_test, kept-inside, answer_number, kept-on-int, kept-on-read, byte-kept, int-kept}
+use Rattle.integers.proofs.Kept.{Kept, kept_same, kept-need, kept-pick, kept_test, kept-inside, kept-on-int, kept-on-read, byte-kept, int-kept}
 use Rattle.std.specs.Prelude.{Ok, Err}
+use Rattle.integers.specs.Answers.{answer_number}
 use Rattle.integers.specs.declared.answer.Refusal.TheVariants.{TooLong, Truncated}
 
 none_kept : (packed : Bool) (s t : List ℕ) (start : ℕ) → text_at packed (s ++ t) start 0 ≡ text_at packed s start 0

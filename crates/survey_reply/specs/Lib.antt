@@ -1,0 +1,2 @@
+-- The reply to a block that was surveyed.
+pub mod Told
