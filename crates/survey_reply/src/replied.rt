@@ -8,7 +8,7 @@ use decoder_survey::measure::Survey;
 use integers::answer::{Refusal, WAITS};
 use reply::Reply;
 
-// What has a number of the table: a refusal, and the number itself.
+// What has a number: a refusal, and any number itself.
 pub trait Numbered {
     ghost told_number: { Self → ℕ };
 

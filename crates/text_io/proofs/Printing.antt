@@ -1,10 +1,10 @@
 -- What is gathered behind some bytes, and what is printed one after another.
-use Rattle.std.proofs.Common.{◌≡◌, ℕ, ◌+◌, ◌*◌, ◌≤◌, ◌<◌, List, [], ◌∷◌, ◌++◌, length, take, refl, ap, sym, ◌∙◌, subst, append_assoc, length-append, Option, None, Some, IfSome, if◌then◌else◌, nat_lt, get_or}
+use Rattle.std.proofs.Common.{◌≡◌, ℕ, ◌+◌, ◌*◌, ◌≤◌, ◌<◌, List, [], ◌∷◌, ◌++◌, length, take, refl, ap, sym, ◌∙◌, subst, append_assoc, length-append, drop, take-add, Option, None, Some, IfSome, if◌then◌else◌, nat_lt, get_or}
 use mathlib.Core.List.{append-nil}
 use native.Mathlib.Omega.{arith}
 use Rattle.std.specs.List.{FoldsTo, concat}
 use Rattle.std.specs.Fmt.{WritesInCalls, WritesText}
-use Rattle.std.proofs.lemmas.List.{length-take-le, take_all, take_more, take_more_set}
+use Rattle.std.proofs.lemmas.List.{length-take-le, length-drop, take_all, take_more, take_more_set}
 use Rattle.std.proofs.lemmas.Grind.{take-set_at}
 use Rattle.std.proofs.Math.ListN.{set, length-set}
 use mathlib.Core.Logic.{⊎_elim}
@@ -69,6 +69,22 @@ digits-more h s i inside =
 -- each byte that is gathered lies in the buffer
 pub held-length : (p : Printer) → length (held p) ≡ p.used
 held-length p = length-take-le p.used p.buffer.now p.inside
+
+-- the digits of n bytes that there was room for, behind those of the bytes before them
+pub next-piece : (s : List ℕ) (i n m : ℕ) (p q r : Printer) → m ≡ n → i + n ≤ length s → q.used + 2 * n ≤ room q
+    → room r ≡ room q → held r ≡ held q ++ hex (take m (drop i s)) → r.lost ≡ q.lost → Prints p (hex (take i s)) q → Prints p (hex (take (i + n) s)) r
+next-piece s i n m p q r e inside fits same behind lost before =
+    let piece = take m (drop i s) in
+    let long = length-take-le m (drop i s) (omega (arith, length-drop i s)) in
+    let once : Prints q (hex piece) r =
+    record {
+      same_room = same;
+      gathers = behind ∙ sym (gathered-fits (room q) (held q) (hex piece) (omega (arith, held-length q, hex-length piece, long)));
+      stays_lost = λ l. lost ∙ l;
+    } in
+    subst (λ (l : List ℕ). Prints p l r)
+    (sym (hex-append (take i s) piece) ∙ ap hex (ap (λ (k : ℕ). take i s ++ take k (drop i s)) e ∙ sym (take-add i n s)))
+    (prints-then p q r (hex (take i s)) (hex piece) before once)
 
 -- a byte behind what was gathered, once room was made for it
 pub with-room : (n c : ℕ) (s m : List ℕ) → m ≡ (if nat_lt (length s) n then s else []) → length m < n → m ++ (c ∷ []) ≡ with_byte n s c

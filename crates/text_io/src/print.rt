@@ -140,10 +140,16 @@ impl<'a> Printer<'a> {
     pub fn hex(&mut self, s: &[u8])
         ensures { Prints self.old (hex s.now) self.new }
     {
-        let n = s.len().min((self.buffer.len() - self.used) / 2);
-        self.push_hex(&s[..n]);
-        for c in &s[n..] {
-            self.pair(*c);
+        // No step is counted, so `for` has none to take: as many bytes as there is room for, and then the one at whose digits the buffer ends.
+        let mut at = 0;
+        while at < s.len() {
+            let n = (s.len() - at).min((self.buffer.len() - self.used) / 2);
+            self.push_hex(&s[at..at + n]);
+            at += n;
+            if at < s.len() {
+                self.pair(s[at]);
+                at += 1;
+            }
         }
     }
 

@@ -1,7 +1,10 @@
-use Rattle.std.proofs.Common.{take, drop}
+use Rattle.std.proofs.Common.{◌≤◌, ◌-◌, take, length}
 use Rattle.text_io.specs.Print.{Prints, hex}
 use Rattle.text_io.proofs.print.Printer.hex.Given as goal
 
--- Behind the digits that there was room for at once, those of the front of the other bytes were printed.
-abbrev pub invariant-loop-c : goal.invariant-loop-c
-invariant-loop-c l = Prints l.initial.self (hex (take l.c-index (drop l.n l.s))) l.self
+-- What was printed so far is the front of the bytes.
+abbrev pub invariant-loop-at : goal.invariant-loop-at
+invariant-loop-at l = (l.at ≤ length l.s) × Prints l.initial.self (hex (take l.at l.s)) l.self
+
+abbrev pub decreases-loop-at : goal.decreases-loop-at
+decreases-loop-at l = length l.s - l.at
